@@ -1,0 +1,146 @@
+-- What a call answers, in the document's numbers: 0 or a refusal, a value, and what is left.
+use Prim.Native.Nat.{ℕ, zero, suc}
+use mathlib.Core.List.{List, []}
+use Rattle.bits.specs.Bit.{bitOf}
+use Rattle.machine.specs.declared.answer.Refusal.{Refusal}
+use Rattle.machine.specs.declared.answer.Refusal.the-variants.{Memory, Window, Offset, Plane, Place, State, Damaged, Range, Shift, Room}
+use Rattle.machine.specs.declared.answer.ByteAnswer.{ByteAnswer}
+use Rattle.machine.specs.declared.answer.ByteAnswer.the-variants.{Done as ByteDone, Refused as ByteRefused}
+use Rattle.machine.specs.declared.answer.StoreAnswer.{StoreAnswer}
+use Rattle.machine.specs.declared.answer.StoreAnswer.the-variants.{Done as StoreDone, Refused as StoreRefused}
+use Rattle.machine.specs.declared.answer.DoneAnswer.{DoneAnswer}
+use Rattle.machine.specs.declared.answer.DoneAnswer.the-variants.{Done, Refused}
+use Rattle.machine.specs.declared.answer.FlagAnswer.{FlagAnswer}
+use Rattle.machine.specs.declared.answer.FlagAnswer.the-variants.{Done as FlagDone, Refused as FlagRefused}
+use Rattle.machine.specs.declared.answer.ClockAnswer.{ClockAnswer}
+use Rattle.machine.specs.declared.answer.ClockAnswer.the-variants.{Done as ClockDone, Refused as ClockRefused}
+use Rattle.machine.specs.declared.answer.MapAnswer.{MapAnswer}
+use Rattle.machine.specs.declared.answer.MapAnswer.the-variants.{Done as MapDone, Refused as MapRefused}
+use Rattle.machine.specs.declared.answer.OddEvenAnswer.{OddEvenAnswer}
+use Rattle.machine.specs.declared.answer.OddEvenAnswer.the-variants.{Done as OddEvenDone, Refused as OddEvenRefused}
+use Rattle.machine.specs.declared.answer.ShiftAnswer.{ShiftAnswer}
+use Rattle.machine.specs.declared.answer.ShiftAnswer.the-variants.{Done as ShiftDone, Refused as ShiftRefused}
+use Rattle.machine.specs.declared.answer.MappedAnswer.{MappedAnswer}
+use Rattle.machine.specs.declared.answer.MappedAnswer.the-variants.{Done as MappedDone, Refused as MappedRefused}
+use Rattle.machine.specs.declared.graphics.MemoryMap.{MemoryMap}
+use Rattle.machine.specs.declared.graphics.MemoryMap.the-variants.{«A0000_128k», «A0000_64K», «B0000_32K», «B8000_32K»}
+use Rattle.machine.specs.declared.graphics.OddEvenModeComplement.{OddEvenModeComplement}
+use Rattle.machine.specs.declared.graphics.OddEvenModeComplement.the-variants.{Sequential, OddEven}
+use Rattle.machine.specs.declared.graphics.ShiftMode.{ShiftMode}
+use Rattle.machine.specs.declared.graphics.ShiftMode.the-variants.{Standard, CGACompatible, Chain4, Unused}
+
+-- ---- numbers and values
+
+-- the table of refusals
+abbrev pub refusalNumber : Refusal → ℕ
+refusalNumber Memory = 1
+refusalNumber Window = 2
+refusalNumber Offset = 3
+refusalNumber Plane = 4
+refusalNumber Place = 5
+refusalNumber State = 6
+refusalNumber Damaged = 7
+refusalNumber Range = 8
+refusalNumber Shift = 9
+refusalNumber Room = 10
+
+pub data Value : Type 0 where
+  -- a byte, a clock, a mark, an enum's place in its order; 0 where a call hands nothing back
+  one : ℕ → Value
+  -- `map_address`: the offset and a0
+  two : ℕ → ℕ → Value
+  -- a pixel's byte
+  pixel : ℕ → Value
+  -- a show: a part of the picture
+  part : List ℕ → Value
+
+-- a refusal carries value 0 (`map_address`: both numbers 0; a show: an empty part)
+abbrev pub blank : Value → Value
+blank (one x) = one 0
+blank (two x y) = two 0 0
+blank (pixel x) = pixel 0
+blank (part l) = part []
+
+pub record Said : Type 0 where
+  pub number : ℕ
+  pub value : Value
+
+abbrev pub said : ℕ → Value → Said
+said n v = record { number = n; value = v }
+
+-- what a call answers, and what it leaves of what it was handed and may move
+pub record Outcome (S : Type 0) : Type 0 where
+  pub answer : Said
+  pub next : S
+
+abbrev pub outcome : {S : Type 0} → Said → S → Outcome S
+outcome a s = record { answer = a; next = s }
+
+-- number 0 has its value and what follows; a refusal leaves state and memory as handed in
+abbrev pub answered : {S : Type 0} → ℕ → Value → S → S → Outcome S
+answered zero v new old = outcome (said 0 v) new
+answered (suc n) v new old = outcome (said (suc n) (blank v)) old
+
+-- ---- the code's answers in those numbers
+
+-- the enums that are handed out, by their place in their order
+abbrev pub mapNumber : MemoryMap → ℕ
+mapNumber «A0000_128k» = 0
+mapNumber «A0000_64K» = 1
+mapNumber «B0000_32K» = 2
+mapNumber «B8000_32K» = 3
+
+abbrev pub oddEvenNumber : OddEvenModeComplement → ℕ
+oddEvenNumber Sequential = 0
+oddEvenNumber OddEven = 1
+
+abbrev pub shiftNumber : ShiftMode → ℕ
+shiftNumber Standard = 0
+shiftNumber CGACompatible = 1
+shiftNumber Chain4 = 2
+shiftNumber Unused = 3
+
+abbrev pub byteSaid : ByteAnswer → Said
+byteSaid (ByteDone x) = said 0 (one x)
+byteSaid (ByteRefused r) = said (refusalNumber r) (one 0)
+
+-- `read_linear` hands out a pixel
+abbrev pub pixelSaid : ByteAnswer → Said
+pixelSaid (ByteDone x) = said 0 (pixel x)
+pixelSaid (ByteRefused r) = said (refusalNumber r) (pixel 0)
+
+abbrev pub storeSaid : StoreAnswer → Said
+storeSaid StoreDone = said 0 (one 0)
+storeSaid (StoreRefused r) = said (refusalNumber r) (one 0)
+
+abbrev pub doneSaid : DoneAnswer → Said
+doneSaid Done = said 0 (one 0)
+doneSaid (Refused r) = said (refusalNumber r) (one 0)
+
+abbrev pub flagSaid : FlagAnswer → Said
+flagSaid (FlagDone b) = said 0 (one (bitOf b))
+flagSaid (FlagRefused r) = said (refusalNumber r) (one 0)
+
+abbrev pub clockSaid : ClockAnswer → Said
+clockSaid (ClockDone x) = said 0 (one x)
+clockSaid (ClockRefused r) = said (refusalNumber r) (one 0)
+
+abbrev pub mapSaid : MapAnswer → Said
+mapSaid (MapDone m) = said 0 (one (mapNumber m))
+mapSaid (MapRefused r) = said (refusalNumber r) (one 0)
+
+abbrev pub oddEvenSaid : OddEvenAnswer → Said
+oddEvenSaid (OddEvenDone m) = said 0 (one (oddEvenNumber m))
+oddEvenSaid (OddEvenRefused r) = said (refusalNumber r) (one 0)
+
+abbrev pub shiftSaid : ShiftAnswer → Said
+shiftSaid (ShiftDone m) = said 0 (one (shiftNumber m))
+shiftSaid (ShiftRefused r) = said (refusalNumber r) (one 0)
+
+abbrev pub mappedSaid : MappedAnswer → Said
+mappedSaid (MappedDone o a0) = said 0 (two (o .0) (bitOf a0))
+mappedSaid (MappedRefused r) = said (refusalNumber r) (two 0 0)
+
+-- a show's number and the part handed back
+abbrev pub partSaid : ℕ → List ℕ → Said
+partSaid n l = said n (part l)

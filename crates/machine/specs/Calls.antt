@@ -1,0 +1,300 @@
+-- Every call: what it refuses, in the order 6, 1, 9, 4, 2, 3, 5, and what it plans, from registers and lengths alone.
+use Prim.Native.Nat.{ℕ, _+_, _*_, _%_, _^_, min, max}
+use mathlib.Core.Bool.{Bool, true, false, _&&_}
+use lib.Dec.{eqb, ltb, leb}
+use Rattle.bits.specs.Bit.{bit, bitOf, pick}
+use Rattle.machine.specs.declared.graphics.GraphicsRegisters.{GraphicsRegisters}
+use Rattle.machine.specs.declared.graphics.GraphicsControllerStats.{GraphicsControllerStats}
+use Rattle.machine.specs.declared.graphics.GraphicsController.{GraphicsController}
+use Rattle.machine.specs.declared.graphics.ReadMode.{ReadMode}
+use Rattle.machine.specs.declared.graphics.ReadMode.the-variants.{ReadSelectedPlane, ReadComparedPlanes}
+use Rattle.machine.specs.declared.graphics.WriteMode.{WriteMode}
+use Rattle.machine.specs.declared.graphics.WriteMode.the-variants.{Mode0, Mode1, Mode2, Invalid}
+use Rattle.machine.specs.declared.graphics.ShiftMode.{ShiftMode}
+use Rattle.machine.specs.declared.graphics.ShiftMode.the-variants.{Standard, CGACompatible, Chain4, Unused}
+use Rattle.machine.specs.declared.sequencer.Sequencer.{Sequencer}
+use Rattle.machine.specs.Memory.{Shape, size, sound}
+use Rattle.machine.specs.Answers.{Value, one, two, mapNumber, oddEvenNumber, shiftNumber}
+use Rattle.machine.specs.Graphics.{withAddress, withData, dataOf, fitsGc, writeMode, readMode, oddEven, shiftMode, chained, memoryMap, gcOf, freshGc}
+use Rattle.machine.specs.Sequencer.{withSeqAddress, withSeqData, seqDataOf, withMark, fitsSeq, inMask, storedAt, gcReadAt, freshSeq}
+use Rattle.machine.specs.Address.{inWindow, a0, offset}
+use Rattle.machine.specs.DataPath.{writtenBit, visits, selectedPlane}
+use Rattle.machine.specs.Deeds.{Deed, rest, load, store, remake, Reply, known, byteAt, compare, pixelAt, pixelsAt, Plan, plan}
+
+-- ---- refusals
+
+-- a test in its turn: its number where it fails, else what follows
+abbrev pub refuse : Bool → ℕ → ℕ → ℕ
+refuse true r n = n
+refuse false r n = r
+
+-- 3: a plane offset is n or more
+abbrev pub checkOffset : Shape → ℕ → ℕ
+checkOffset h o = refuse (ltb o (size h)) 3 0
+
+-- 1, 3
+unfoldable pub offsetNumber : Shape → ℕ → ℕ
+offsetNumber h o = refuse (sound h) 1 (checkOffset h o)
+
+-- 1, 4, 3: a plane number is above 3
+unfoldable pub planeNumber : Shape → ℕ → ℕ → ℕ
+planeNumber h p o = refuse (sound h) 1 (refuse (leb p 3) 4 (checkOffset h o))
+
+-- 1, 5: a pixel place is 8n or more
+unfoldable pub placeNumber : Shape → ℕ → ℕ
+placeNumber h j = refuse (sound h) 1 (refuse (ltb j (8 * size h)) 5 0)
+
+-- 1, 5: a shown offset is n or more
+unfoldable pub shownNumber : Shape → ℕ → ℕ
+shownNumber h o = refuse (sound h) 1 (refuse (ltb o (size h)) 5 0)
+
+-- ---- calls on memory alone (vram.rs)
+
+pub data VramCall : Type 0 where
+  -- plane, offset
+  readU8 peekU8 : ℕ → ℕ → VramCall
+  -- offset
+  readGlyph : ℕ → VramCall
+  -- pixel place
+  readLinear : ℕ → VramCall
+  -- offset
+  serializeLinear : ℕ → VramCall
+  -- plane, offset, byte
+  writeU8 planeSet planeAnd planeOr : ℕ → ℕ → ℕ → VramCall
+  -- offset
+  deplane : ℕ → VramCall
+
+-- what a direct store puts into a bit, of the byte's bit and the old one: set, and, or
+abbrev pub setBit : ℕ → ℕ → ℕ
+setBit new old = new
+
+abbrev pub andBit : ℕ → ℕ → ℕ
+andBit new old = min new old
+
+abbrev pub orBit : ℕ → ℕ → ℕ
+orBit new old = max new old
+
+-- a store into one plane of those that a test names
+abbrev pub storeOne : (ℕ → ℕ → ℕ) → ℕ → ℕ → (ℕ → Bool) → ℕ → Deed
+storeOne f p o w x = store o (λ q. eqb q p && w q) (λ q i l old. f (bit i x) old)
+
+-- the stores of vram.rs itself use no mask
+abbrev pub unmasked : ℕ → Bool
+unmasked p = true
+
+unfoldable pub vramPlan : Shape → VramCall → Plan
+vramPlan h (readU8 p o) = plan (planeNumber h p o) rest (byteAt p o)
+vramPlan h (peekU8 p o) = plan (planeNumber h p o) rest (byteAt p o)
+vramPlan h (readGlyph o) = plan (offsetNumber h o) rest (byteAt 2 o)
+vramPlan h (readLinear j) = plan (placeNumber h j) rest (pixelAt j)
+vramPlan h (serializeLinear o) = plan (shownNumber h o) rest (pixelsAt (8 * o))
+vramPlan h (writeU8 p o x) = plan (planeNumber h p o) (storeOne setBit p o unmasked x) (known (one 0))
+vramPlan h (planeSet p o x) = plan (planeNumber h p o) (storeOne setBit p o unmasked x) (known (one 0))
+vramPlan h (planeAnd p o x) = plan (planeNumber h p o) (storeOne andBit p o unmasked x) (known (one 0))
+vramPlan h (planeOr p o x) = plan (planeNumber h p o) (storeOne orBit p o unmasked x) (known (one 0))
+vramPlan h (deplane o) = plan (offsetNumber h o) (remake o) (known (one 0))
+
+-- ---- calls on the sequencer's record (sequencer.rs)
+
+pub data SequencerCall : Type 0 where
+  seqReset seqClock seqSetClockChangePending seqPollClockChange seqReadAddress seqReadData : SequencerCall
+  -- byte
+  seqWriteAddress seqWriteData : ℕ → SequencerCall
+
+-- 6; `reset` takes any record
+unfoldable pub seqNumberOf : Sequencer → SequencerCall → ℕ
+seqNumberOf s seqReset = 0
+seqNumberOf s seqClock = refuse (fitsSeq s) 6 0
+seqNumberOf s seqSetClockChangePending = refuse (fitsSeq s) 6 0
+seqNumberOf s seqPollClockChange = refuse (fitsSeq s) 6 0
+seqNumberOf s seqReadAddress = refuse (fitsSeq s) 6 0
+seqNumberOf s seqReadData = refuse (fitsSeq s) 6 0
+seqNumberOf s (seqWriteAddress x) = refuse (fitsSeq s) 6 0
+seqNumberOf s (seqWriteData x) = refuse (fitsSeq s) 6 0
+
+-- `poll_clock_change` answers the mark
+unfoldable pub seqValue : Sequencer → SequencerCall → Value
+seqValue s seqReset = one 0
+seqValue s seqClock = one (s .«char_clock»)
+seqValue s seqSetClockChangePending = one 0
+seqValue s seqPollClockChange = one (bitOf (s .«clock_change_pending»))
+seqValue s seqReadAddress = one (s .«address_byte»)
+seqValue s seqReadData = one (seqDataOf (s .«register_selected») s)
+seqValue s (seqWriteAddress x) = one 0
+seqValue s (seqWriteData x) = one 0
+
+-- the sequencer's reset restores its start; `poll_clock_change` clears the mark
+unfoldable pub seqNext : Sequencer → SequencerCall → Sequencer
+seqNext s seqReset = freshSeq
+seqNext s seqClock = s
+seqNext s seqSetClockChangePending = withMark true s
+seqNext s seqPollClockChange = withMark false s
+seqNext s seqReadAddress = s
+seqNext s seqReadData = s
+seqNext s (seqWriteAddress x) = withSeqAddress x s
+seqNext s (seqWriteData x) = withSeqData x s
+
+-- ---- calls on the sequencer's record and memory
+
+pub data DirectCall : Type 0 where
+  -- plane, offset, a0
+  seqCpuReadU8 seqPeekU8 seqGcReadU8 : ℕ → ℕ → Bool → DirectCall
+  -- pixel place
+  seqReadLinear : ℕ → DirectCall
+  -- offset
+  seqSerializeLinear : ℕ → DirectCall
+  -- plane, offset, a0, byte
+  seqPlaneSet seqPlaneAnd seqPlaneOr : ℕ → ℕ → Bool → ℕ → DirectCall
+
+-- the sequencer's direct stores use its mask; its plane reads take the offset as it stands, `gc_read_u8` excepted
+unfoldable pub directPlan : Sequencer → Shape → DirectCall → Plan
+directPlan s h (seqCpuReadU8 p o a) = plan (refuse (fitsSeq s) 6 (planeNumber h p o)) rest (byteAt p o)
+directPlan s h (seqPeekU8 p o a) = plan (refuse (fitsSeq s) 6 (planeNumber h p o)) rest (byteAt p o)
+directPlan s h (seqGcReadU8 p o a) = plan (refuse (fitsSeq s) 6 (planeNumber h p o)) rest (byteAt p (gcReadAt s o))
+directPlan s h (seqReadLinear j) = plan (refuse (fitsSeq s) 6 (placeNumber h j)) rest (pixelAt j)
+directPlan s h (seqSerializeLinear o) = plan (refuse (fitsSeq s) 6 (shownNumber h o)) rest (pixelsAt (8 * o))
+directPlan s h (seqPlaneSet p o a x) = plan (refuse (fitsSeq s) 6 (planeNumber h p o)) (storeOne setBit p (storedAt s o) (inMask s o a) x) (known (one 0))
+directPlan s h (seqPlaneAnd p o a x) = plan (refuse (fitsSeq s) 6 (planeNumber h p o)) (storeOne andBit p (storedAt s o) (inMask s o a) x) (known (one 0))
+directPlan s h (seqPlaneOr p o a x) = plan (refuse (fitsSeq s) 6 (planeNumber h p o)) (storeOne orBit p (storedAt s o) (inMask s o a) x) (known (one 0))
+
+-- ---- calls on the controller's record (graphics_controller.rs)
+
+pub data GraphicsCall : Type 0 where
+  gcReset gcChain gcChain4 gcMemoryMap gcOddEven gcShiftMode gcReadAddress gcReadData : GraphicsCall
+  -- byte
+  gcWriteAddress gcWriteData : ℕ → GraphicsCall
+  -- address, page
+  gcMapAddress : ℕ → Bool → GraphicsCall
+
+-- 6, 2; `reset` takes any record
+unfoldable pub gcNumberOf : GraphicsRegisters → GraphicsCall → ℕ
+gcNumberOf r gcReset = 0
+gcNumberOf r gcChain = refuse (fitsGc r) 6 0
+gcNumberOf r gcChain4 = refuse (fitsGc r) 6 0
+gcNumberOf r gcMemoryMap = refuse (fitsGc r) 6 0
+gcNumberOf r gcOddEven = refuse (fitsGc r) 6 0
+gcNumberOf r gcShiftMode = refuse (fitsGc r) 6 0
+gcNumberOf r gcReadAddress = refuse (fitsGc r) 6 0
+gcNumberOf r gcReadData = refuse (fitsGc r) 6 0
+gcNumberOf r (gcWriteAddress x) = refuse (fitsGc r) 6 0
+gcNumberOf r (gcWriteData x) = refuse (fitsGc r) 6 0
+gcNumberOf r (gcMapAddress x page) = refuse (fitsGc r) 6 (refuse (inWindow (memoryMap r) x) 2 0)
+
+-- whether the shift mode is Chain4
+abbrev pub isChain4 : ShiftMode → Bool
+isChain4 Standard = false
+isChain4 CGACompatible = false
+isChain4 Chain4 = true
+isChain4 Unused = false
+
+unfoldable pub gcValue : GraphicsRegisters → GraphicsCall → Value
+gcValue r gcReset = one 0
+gcValue r gcChain = one (bitOf (chained r))
+gcValue r gcChain4 = one (bitOf (isChain4 (shiftMode r)))
+gcValue r gcMemoryMap = one (mapNumber (memoryMap r))
+gcValue r gcOddEven = one (oddEvenNumber (oddEven r))
+gcValue r gcShiftMode = one (shiftNumber (shiftMode r))
+gcValue r gcReadAddress = one (r .«register_select_byte»)
+gcValue r gcReadData = one (dataOf (r .«register_selected») r)
+gcValue r (gcWriteAddress x) = one 0
+gcValue r (gcWriteData x) = one 0
+gcValue r (gcMapAddress x page) = two (offset r x page) (bitOf (a0 x))
+
+-- `reset` restores the GC's start, latches and counters too
+unfoldable pub gcNext : GraphicsController → GraphicsCall → GraphicsController
+gcNext g gcReset = freshGc
+gcNext g gcChain = g
+gcNext g gcChain4 = g
+gcNext g gcMemoryMap = g
+gcNext g gcOddEven = g
+gcNext g gcShiftMode = g
+gcNext g gcReadAddress = g
+gcNext g gcReadData = g
+gcNext g (gcWriteAddress x) = gcOf (withAddress x (g .registers)) (g .stats) (g .latches)
+gcNext g (gcWriteData x) = gcOf (withData x (g .registers)) (g .stats) (g .latches)
+gcNext g (gcMapAddress x page) = g
+
+-- ---- calls on both records and memory: the processor's accesses, and the show
+
+pub data CpuCall : Type 0 where
+  -- address, page
+  cpuRead cpuPeek : ℕ → Bool → CpuCall
+  -- address, page, byte
+  cpuWrite : ℕ → Bool → ℕ → CpuCall
+  -- offset
+  serialize : ℕ → CpuCall
+
+-- 6 looks at the whole of each record handed in
+abbrev pub fitsBoth : GraphicsRegisters → Sequencer → Bool
+fitsBoth r s = fitsGc r && fitsSeq s
+
+-- 6, 1, 2, 3
+unfoldable pub accessNumber : GraphicsRegisters → Sequencer → Shape → ℕ → Bool → ℕ
+accessNumber r s h x page =
+    refuse (fitsBoth r s) 6 (refuse (sound h) 1 (refuse (inWindow (memoryMap r) x) 2 (checkOffset h (offset r x page))))
+
+-- 9: a show while the shift mode is Chain4 or CGACompatible
+abbrev pub shows : ShiftMode → Bool
+shows Standard = true
+shows CGACompatible = false
+shows Chain4 = false
+shows Unused = true
+
+-- 6, 1, 9, 5
+unfoldable pub showNumber : GraphicsRegisters → Sequencer → Shape → ℕ → ℕ
+showNumber r s h o = refuse (fitsBoth r s) 6 (refuse (sound h) 1 (refuse (shows (shiftMode r)) 9 (refuse (ltb o (size h)) 5 0)))
+
+-- a plan, and the counter that an accepted access raises
+pub record CpuPlan : Type 0 where
+  pub ask : Plan
+  pub counter : ℕ
+
+abbrev pub cpuPlanOf : Plan → ℕ → CpuPlan
+cpuPlanOf a n = record { ask = a; counter = n }
+
+-- the six counters: 0 to 3 writes by mode, 4 and 5 reads by mode. No peek and no show counts
+abbrev pub writeCounter : WriteMode → ℕ
+writeCounter Mode0 = 0
+writeCounter Mode1 = 1
+writeCounter Mode2 = 2
+writeCounter Invalid = 3
+
+abbrev pub readCounter : ReadMode → ℕ
+readCounter ReadSelectedPlane = 4
+readCounter ReadComparedPlanes = 5
+
+abbrev pub noCounter : ℕ
+noCounter = 6
+
+-- raised by 1, back to 0 after 4,294,967,295
+abbrev pub raised : ℕ → ℕ → ℕ → ℕ
+raised n i x = pick (eqb n i) ((x + 1) % 2 ^ 32) x
+
+unfoldable pub counted : ℕ → GraphicsControllerStats → GraphicsControllerStats
+counted n c = record {
+  «mode_0_writes» = raised n 0 (c .«mode_0_writes»);
+  «mode_1_writes» = raised n 1 (c .«mode_1_writes»);
+  «mode_2_writes» = raised n 2 (c .«mode_2_writes»);
+  «mode_3_writes» = raised n 3 (c .«mode_3_writes»);
+  «mode_0_reads» = raised n 4 (c .«mode_0_reads»);
+  «mode_1_reads» = raised n 5 (c .«mode_1_reads»);
+}
+
+-- selected-plane read: the selected plane's byte; compare read: the latches compared
+unfoldable pub readReply : ReadMode → GraphicsRegisters → ℕ → ℕ → Reply
+readReply ReadSelectedPlane r x o = byteAt (selectedPlane r x) o
+readReply ReadComparedPlanes r x o = compare (r .«color_dont_care») (r .«color_compare»)
+
+-- a visited plane is stored only if the mask has it; mode 3 only counts
+unfoldable pub writeDeed : WriteMode → GraphicsRegisters → Sequencer → ℕ → ℕ → ℕ → Deed
+writeDeed Mode0 r s x o v = store (storedAt s o) (λ p. visits r x p && inMask s o (a0 x) p) (λ p i l old. writtenBit Mode0 r v p i l)
+writeDeed Mode1 r s x o v = store (storedAt s o) (λ p. visits r x p && inMask s o (a0 x) p) (λ p i l old. writtenBit Mode1 r v p i l)
+writeDeed Mode2 r s x o v = store (storedAt s o) (λ p. visits r x p && inMask s o (a0 x) p) (λ p i l old. writtenBit Mode2 r v p i l)
+writeDeed Invalid r s x o v = rest
+
+-- the GC's peek: plane 0, no latch or counter moves
+unfoldable pub cpuPlan : GraphicsRegisters → Sequencer → Shape → CpuCall → CpuPlan
+cpuPlan r s h (cpuRead x page) = cpuPlanOf (plan (accessNumber r s h x page) (load (offset r x page)) (readReply (readMode r) r x (offset r x page))) (readCounter (readMode r))
+cpuPlan r s h (cpuPeek x page) = cpuPlanOf (plan (accessNumber r s h x page) rest (byteAt 0 (offset r x page))) noCounter
+cpuPlan r s h (cpuWrite x page v) = cpuPlanOf (plan (accessNumber r s h x page) (writeDeed (writeMode r) r s x (offset r x page) v) (known (one 0))) (writeCounter (writeMode r))
+cpuPlan r s h (serialize o) = cpuPlanOf (plan (showNumber r s h o) rest (pixelsAt (8 * o))) noCounter

@@ -1,0 +1,48 @@
+-- The data path, one bit at a time: what a write puts into bit i of plane p, and what a read takes out.
+use Prim.Native.Nat.{ℕ, _+_, _*_, _/_, _%_, min, max}
+use mathlib.Core.Bool.{Bool, true, false, _||_}
+use lib.Dec.{eqb}
+use lib.Bits.{differ}
+use Rattle.bits.specs.Bit.{bit, isOne, bitOf, pick}
+use Rattle.machine.specs.declared.graphics.LogicFunction.{LogicFunction}
+use Rattle.machine.specs.declared.graphics.LogicFunction.the-variants.{Unmodified, And, Or, Xor}
+use Rattle.machine.specs.declared.graphics.WriteMode.{WriteMode}
+use Rattle.machine.specs.declared.graphics.WriteMode.the-variants.{Mode0, Mode1, Mode2, Invalid}
+use Rattle.machine.specs.declared.graphics.GraphicsRegisters.{GraphicsRegisters}
+use Rattle.machine.specs.Graphics.{oddEven, isOddEven, rotateCount, logicFunction}
+use Rattle.machine.specs.Address.{a0}
+
+-- the byte rotated: eight bits turned right by the count
+abbrev pub rotated : ℕ → ℕ → ℕ → ℕ
+rotated count x i = bit ((i + count) % 8) x
+
+-- mode 0: the byte rotated; an enabled Set/Reset bit replaces it, by 00 or FF, for that plane
+unfoldable pub dataBit : GraphicsRegisters → ℕ → ℕ → ℕ → ℕ
+dataBit r x p i = pick (isOne (bit p (r .«enable_set_reset»))) (bit p (r .«set_reset»)) (rotated (rotateCount r) x i)
+
+-- the function of data and latch
+unfoldable pub combined : LogicFunction → ℕ → ℕ → ℕ
+combined Unmodified d l = d
+combined And d l = min d l
+combined Or d l = max d l
+combined Xor d l = differ d l
+
+-- bit by bit, a Bit Mask 1 takes the function of data and latch, a 0 the latch
+unfoldable pub masked : GraphicsRegisters → ℕ → ℕ → ℕ → ℕ
+masked r i d l = pick (isOne (bit i (r .bitmask))) (combined (logicFunction r) d l) l
+
+-- bit i of what a write of x puts into plane p, where the latch's bit i is l.
+-- mode 1 stores latches; mode 2: bit p of the byte, spread; mode 3 only counts
+unfoldable pub writtenBit : WriteMode → GraphicsRegisters → ℕ → ℕ → ℕ → ℕ → ℕ
+writtenBit Mode0 r x p i l = masked r i (dataBit r x p i) l
+writtenBit Mode1 r x p i l = l
+writtenBit Mode2 r x p i l = masked r i (bit p x) l
+writtenBit Invalid r x p i l = l
+
+-- writes visit planes 0..3, or a0 and 2 + a0 under GC odd/even
+unfoldable pub visits : GraphicsRegisters → ℕ → ℕ → Bool
+visits r x p = pick (isOddEven (oddEven r)) (eqb p (bitOf (a0 x)) || eqb p (2 + bitOf (a0 x))) true
+
+-- selected-plane read: the map select's plane; with GC odd/even, its bit 0 replaced by a0
+unfoldable pub selectedPlane : GraphicsRegisters → ℕ → ℕ
+selectedPlane r x = pick (isOddEven (oddEven r)) (r .«read_map_select» / 2 * 2 + bitOf (a0 x)) (r .«read_map_select»)

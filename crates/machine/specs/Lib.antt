@@ -1,0 +1,9 @@
+pub mod Memory
+pub mod Answers
+pub mod Graphics
+pub mod Sequencer
+pub mod Address
+pub mod DataPath
+pub mod Deeds
+pub mod Calls
+pub mod Step

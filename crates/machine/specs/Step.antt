@@ -1,0 +1,88 @@
+-- What each call does to what it is handed, layer by layer; `step`, the same on the whole state; `run`, call after call.
+use Prim.Native.Nat.{ℕ}
+use mathlib.Core.List.{List, [], _∷_}
+use Rattle.machine.specs.declared.graphics.GraphicsController.{GraphicsController}
+use Rattle.machine.specs.declared.sequencer.Sequencer.{Sequencer}
+use Rattle.machine.specs.Memory.{Memory, shape}
+use Rattle.machine.specs.Answers.{Said, Outcome, outcome, answered}
+use Rattle.machine.specs.Graphics.{gcOf}
+use Rattle.machine.specs.Deeds.{Plan, latchesAfter, memoryAfter, valueOf, perform}
+use Rattle.machine.specs.Calls.{VramCall, vramPlan, SequencerCall, seqNumberOf, seqValue, seqNext, DirectCall, directPlan, GraphicsCall, gcNumberOf, gcValue, gcNext, CpuCall, CpuPlan, cpuPlan, counted}
+
+-- ---- the five layers, each over what its calls are handed
+
+unfoldable pub vramStep : Memory → VramCall → Outcome Memory
+vramStep m c = perform (vramPlan (shape m) c) m
+
+unfoldable pub sequencerStep : Sequencer → SequencerCall → Outcome Sequencer
+sequencerStep s c = answered (seqNumberOf s c) (seqValue s c) (seqNext s c) s
+
+unfoldable pub directStep : Sequencer → Memory → DirectCall → Outcome Memory
+directStep s m c = perform (directPlan s (shape m) c) m
+
+unfoldable pub graphicsStep : GraphicsController → GraphicsCall → Outcome GraphicsController
+graphicsStep g c = answered (gcNumberOf (g .registers) c) (gcValue (g .registers) c) (gcNext g c) g
+
+-- the controller and the memory
+pub record Device : Type 0 where
+  pub gc : GraphicsController
+  pub memory : Memory
+
+abbrev pub device : GraphicsController → Memory → Device
+device g m = record { gc = g; memory = m }
+
+-- the registers stay; the plan's counter goes up, its deed is done
+abbrev pub cpuAfter : CpuPlan → GraphicsController → Memory → Device
+cpuAfter a g m = device (gcOf (g .registers) (counted (a .counter) (g .stats)) (latchesAfter (a .ask .deed) (g .latches) m))
+    (memoryAfter (a .ask .deed) (g .latches) m)
+
+-- the reply is made after the deed: a compare read sees the latches that it loaded
+abbrev pub cpuAnswered : Plan → Device → Device → Outcome Device
+cpuAnswered a new old = answered (a .number) (valueOf (a .reply) (new .gc .latches) (new .memory)) new old
+
+abbrev pub cpuPerform : CpuPlan → GraphicsController → Memory → Outcome Device
+cpuPerform a g m = cpuAnswered (a .ask) (cpuAfter a g m) (device g m)
+
+unfoldable pub cpuStep : GraphicsController → Sequencer → Memory → CpuCall → Outcome Device
+cpuStep g s m c = cpuPerform (cpuPlan (g .registers) s (shape m) c) g m
+
+-- ---- the whole state
+
+pub record State : Type 0 where
+  pub gc : GraphicsController
+  pub seq : Sequencer
+  pub memory : Memory
+
+abbrev pub state : GraphicsController → Sequencer → Memory → State
+state g s m = record { gc = g; seq = s; memory = m }
+
+pub data Call : Type 0 where
+  vram : VramCall → Call
+  sequencer : SequencerCall → Call
+  direct : DirectCall → Call
+  graphics : GraphicsCall → Call
+  cpu : CpuCall → Call
+
+-- an outcome of a part of the state, put back into the whole
+abbrev pub lifted : {S T : Type 0} → (S → T) → Outcome S → Outcome T
+lifted f o = outcome (o .answer) (f (o .next))
+
+unfoldable pub step : State → Call → Outcome State
+step s (vram c) = lifted (state (s .gc) (s .seq)) (vramStep (s .memory) c)
+step s (sequencer c) = lifted (λ q. state (s .gc) q (s .memory)) (sequencerStep (s .seq) c)
+step s (direct c) = lifted (state (s .gc) (s .seq)) (directStep (s .seq) (s .memory) c)
+step s (graphics c) = lifted (λ g. state g (s .seq) (s .memory)) (graphicsStep (s .gc) c)
+step s (cpu c) = lifted (λ d. state (d .gc) (s .seq) (d .memory)) (cpuStep (s .gc) (s .seq) (s .memory) c)
+
+-- ---- call after call
+
+pub record Run : Type 0 where
+  pub answers : List Said
+  pub final : State
+
+abbrev pub answeredFirst : Said → Run → Run
+answeredFirst a r = record { answers = a ∷ r .answers; final = r .final }
+
+unfoldable pub run : State → List Call → Run
+run s [] = record { answers = []; final = s }
+run s (c ∷ cs) = answeredFirst (step s c .answer) (run (step s c .next) cs)
