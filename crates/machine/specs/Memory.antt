@@ -47,6 +47,15 @@ unfoldable pub sound : Shape → Bool
 sound h = ltb 0 (size h) && (leb (size h) 65536 && (eqb (h .bytes 1) (size h) && (eqb (h .bytes 2) (size h)
     && (eqb (h .bytes 3) (size h) && eqb (h .pixels) (8 * size h)))))
 
+-- the same as facts: what an inner function asks of its caller
+pub record Shaped (m : Memory) : Type 0 where
+  pub some : 0 < length (m .p0)
+  pub most : length (m .p0) ≤ 65536
+  pub same1 : length (m .p1) ≡ length (m .p0)
+  pub same2 : length (m .p2) ≡ length (m .p0)
+  pub same3 : length (m .p3) ≡ length (m .p0)
+  pub eightfold : length (m .picture) ≡ 8 * length (m .p0)
+
 -- the memory behind five lent slices: as they stand, where a call begins, where it returns
 abbrev pub lent : RefT (List ℕ) → RefT (List ℕ) → RefT (List ℕ) → RefT (List ℕ) → RefT (List ℕ) → Memory
 lent a b c d e = mem (now a) (now b) (now c) (now d) (now e)

@@ -1,0 +1,88 @@
+-- `&`, `|`, `^`, `!` and shifts, bit by bit: `simp bitwise` turns bit i of an expression on numbers into the same expression on bits.
+use Prim.Native.Nat.{ℕ, zero, suc, _+_, _-_, _*_, _/_, _%_, _^_, _≤_, _<_, min, max}
+use native.Mathlib.Nat.{pow-suc, lt-of-le-of-lt, le-of-suc-le-suc, not-suc-le-zero, mod-eq-of-lt}
+use native.Mathlib.Numerals.{add-one}
+use native.Mathlib.Omega.{arith}
+use mathlib.Core.Path.{_≡_, sym, ap, _∙_}
+use lib.Arith.{digits-mod}
+use lib.Pow.{shr-lt, shl-shr, pow-lt, pow-add}
+use lib.Bits.{bitAnd, bitOr, bitXor, differ, and-step, or-step, xor-step, and-shr, or-shr, xor-shr, and-le-r, or-lt, xor-lt, and-mask, and-high, shifted-even, shifted-half}
+use Rattle.bits.specs.Bit.{bit, ofBits, byteOf}
+use Rattle.bits.proofs.Laws.{bit-lt, bit-zero, bit-suc, bit-shr, bit-of}
+
+-- ---- the operations
+
+pub bit-and : (i a b : ℕ) → bit i (bitAnd a b) ≡ min (bit i a) (bit i b)
+unfolding bit
+bit-and i a b = ap (λ (q : ℕ). q % 2) (and-shr a b i ∙ and-step (a / 2 ^ i) (b / 2 ^ i)) ∙ omega arith
+
+pub bit-or : (i a b : ℕ) → bit i (bitOr a b) ≡ max (bit i a) (bit i b)
+unfolding bit
+bit-or i a b = ap (λ (q : ℕ). q % 2) (or-shr a b i ∙ or-step (a / 2 ^ i) (b / 2 ^ i)) ∙ omega arith
+
+pub differ-lt : (x y : ℕ) → x < 2 → y < 2 → differ x y < 2
+differ-lt zero y h k = k
+differ-lt (suc x) zero h k = h
+differ-lt (suc x) (suc y) h k = differ-lt x y (omega arith) (omega arith)
+
+pub bit-xor : (i a b : ℕ) → bit i (bitXor a b) ≡ differ (bit i a) (bit i b)
+unfolding bit
+bit-xor i a b =
+    ap (λ (q : ℕ). q % 2) (xor-shr a b i ∙ xor-step (a / 2 ^ i) (b / 2 ^ i))
+    ∙ digits-mod (bitXor (a / 2 ^ i / 2) (b / 2 ^ i / 2)) (differ-lt (a / 2 ^ i % 2) (b / 2 ^ i % 2) (omega arith) (omega arith))
+
+-- the complement in n bits
+pub bit-not : (n : ℕ) {x : ℕ} → x < 2 ^ n → (i : ℕ) → i < n → bit i (2 ^ n - 1 - x) ≡ 1 - bit i x
+bit-not zero h i l = absurd (not-suc-le-zero l)
+bit-not (suc n) {x} h zero l = simp bit-zero (omega (arith, pow-suc 2 n))
+bit-not (suc n) {x} h (suc i) l =
+    bit-suc i (2 ^ suc n - 1 - x)
+    ∙ ap (bit i) (omega (arith, pow-suc 2 n))
+    ∙ bit-not n (shr-lt n 1 (rw add-one h)) i (le-of-suc-le-suc l)
+    ∙ ap (λ (b : ℕ). 1 - b) (sym (bit-suc i x))
+
+pub bit-flip : (i x : ℕ) → x < 256 → i < 8 → bit i (255 - x) ≡ 1 - bit i x
+bit-flip i x h l = bit-not 8 h i l
+
+-- bits moved up
+pub bit-shl : (i k x : ℕ) → bit (k + i) (x * 2 ^ k) ≡ bit i x
+bit-shl i k x = sym (bit-shr i k (x * 2 ^ k)) ∙ ap (bit i) (shl-shr x k)
+
+pub bit-shl-low : (i k x : ℕ) → i < k → bit i (x * 2 ^ k) ≡ 0
+bit-shl-low i zero x h = absurd (not-suc-le-zero h)
+bit-shl-low zero (suc k) x h = bit-zero (x * 2 ^ suc k) ∙ shifted-even x k
+bit-shl-low (suc i) (suc k) x h = bit-suc i (x * 2 ^ suc k) ∙ ap (bit i) (shifted-half x k) ∙ bit-shl-low i k x (le-of-suc-le-suc h)
+
+-- eight times one bit
+pub bit-spread : (i b : ℕ) → i < 8 → b < 2 → bit i (byteOf (λ k. b)) ≡ b
+bit-spread i b h l = bit-of 8 (λ k. b) (λ k. l) i h
+
+pub ruleset bitwise = (bit-and, bit-or, bit-xor, bit-flip)
+
+-- ---- bytes in, a byte out: `search bytes`
+
+pub and8 : (a b : ℕ) → b < 256 → bitAnd a b < 256
+and8 a b h = lt-of-le-of-lt (and-le-r a b) h
+
+pub or8 : (a b : ℕ) → a < 256 → b < 256 → bitOr a b < 256
+or8 a b = or-lt 8 a b
+
+pub xor8 : (a b : ℕ) → a < 256 → b < 256 → bitXor a b < 256
+xor8 a b = xor-lt 8 a b
+
+pub flip8 : (a : ℕ) → 255 - a < 256
+flip8 a = omega arith
+
+pub ruleset bytes = (and8, or8, xor8, flip8)
+
+-- ---- one bit taken out
+
+-- `(x >> k) & 1`
+pub shr-and-one : (x k : ℕ) → bitAnd (x / 2 ^ k) 1 ≡ bit k x
+unfolding bit
+shr-and-one x k = and-mask (x / 2 ^ k) 1
+
+-- `x & (1 << p)` at a byte
+pub and-one-shl : (x p : ℕ) → p < 8 → bitAnd x (1 * 2 ^ p % 256) ≡ bit p x * 2 ^ p
+unfolding bit
+and-one-shl x p h = ap (bitAnd x) (omega (arith, mod-eq-of-lt (pow-lt {i = p} {j = 8} h), pow-add 2 1 p)) ∙ and-high x 1 p

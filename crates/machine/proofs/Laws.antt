@@ -1,0 +1,189 @@
+-- What the proofs of the code cite of the machine: an answer by its number, what an accepted check says, a store plane by plane.
+use Prim.Native.Nat.{ℕ, zero, suc, _*_, _≤_, _<_}
+use native.Mathlib.Omega.{arith}
+use mathlib.Core.Path.{_≡_, refl, sym, ap, _∙_}
+use mathlib.Core.Bool.{Bool, true, false, _&&_}
+use mathlib.Core.List.{List, []}
+use lib.Dec.{eqb, ltb, leb}
+use lib.ListN.{length}
+use borrow.Author.Tests.{ltb-true, leb-true, eqb-true}
+use Rattle.bits.specs.Bit.{pick}
+use Rattle.machine.specs.declared.answer.Refusal.{Refusal}
+use Rattle.machine.specs.declared.answer.Refusal.the-variants.{Memory as NoMemory, Window, Offset, Plane, Place, State, Damaged, Range, Shift, Room}
+use Rattle.machine.specs.declared.graphics.GraphicsRegisters.{GraphicsRegisters}
+use Rattle.machine.specs.declared.sequencer.Sequencer.{Sequencer}
+use Rattle.machine.specs.Memory.{Memory, shape, sound, Shaped}
+use Rattle.machine.specs.Answers.{refusalNumber, Value, blank, said, Outcome, outcome, answered}
+use Rattle.machine.specs.Graphics.{memoryMap}
+use Rattle.machine.specs.Address.{inWindow, offset}
+use Rattle.machine.specs.Deeds.{Plan, perform, memoryAfter, valueOf, laid, any, remade, stored}
+use Rattle.machine.specs.Calls.{refuse, offsetNumber, planeNumber, placeNumber, shownNumber, accessNumber, fitsBoth}
+
+-- ---- an answer by its number
+
+pub answered-done : {S : Type 0} (n : ℕ) (v w : Value) (new new′ old : S) → 0 ≡ n → w ≡ v → new′ ≡ new → outcome (said 0 w) new′ ≡ answered n v new old
+answered-done n v w new new′ old e f g = rw (← e, f, g)
+
+pub answered-refused : {S : Type 0} (k n : ℕ) (v w : Value) (new old : S) → 0 < k → k ≡ n → w ≡ blank v → outcome (said k w) old ≡ answered n v new old
+answered-refused zero n v w new old h e f = absurd (omega arith)
+answered-refused (suc k) n v w new old h e f = rw (← e, f)
+
+-- a plan carried out: accepted, or refused
+pub perform-done : (a : Plan) (m m′ : Memory) (v : Value) → 0 ≡ a .number → m′ ≡ memoryAfter (a .deed) [] m → v ≡ valueOf (a .reply) [] m′ → outcome (said 0 v) m′ ≡ perform a m
+unfolding perform
+perform-done a m m′ v e g h = answered-done (a .number) _ v _ m′ m e (rw (← g) h) g
+
+pub perform-refused : (a : Plan) (m : Memory) (k : ℕ) (v : Value) → 0 < k → k ≡ a .number → v ≡ blank (valueOf (a .reply) [] (memoryAfter (a .deed) [] m)) → outcome (said k v) m ≡ perform a m
+unfolding perform
+perform-refused a m k v h e f = answered-refused k (a .number) _ v _ m h e f
+
+-- no refusal has number 0
+pub refusal-some : (r : Refusal) → 0 < refusalNumber r
+refusal-some NoMemory = omega arith
+refusal-some Window = omega arith
+refusal-some Offset = omega arith
+refusal-some Plane = omega arith
+refusal-some Place = omega arith
+refusal-some State = omega arith
+refusal-some Damaged = omega arith
+refusal-some Range = omega arith
+refusal-some Shift = omega arith
+refusal-some Room = omega arith
+
+-- ---- what an accepted check says
+
+pub both : (a b : Bool) → (a && b) ≡ true → (a ≡ true) × (b ≡ true)
+both true b e = (refl, e)
+both false b e = absurd (let z : _≡_ {A = ℕ} 0 1 = cc in omega arith)
+
+-- of a test for refusal r + 1
+pub refuse-0 : (b : Bool) (r n : ℕ) → refuse b (suc r) n ≡ 0 → (b ≡ true) × (n ≡ 0)
+refuse-0 true r n e = (refl, e)
+refuse-0 false r n e = absurd (omega arith)
+
+pub sound-shaped : (m : Memory) → sound (shape m) ≡ true → Shaped m
+unfolding sound
+sound-shaped m e =
+    let a = both _ _ e in
+    let b = both _ _ (a .1) in
+    let c = both _ _ (b .1) in
+    let d = both _ _ (c .1) in
+    let f = both _ _ (d .1) in
+    record {
+      some = ltb-true _ _ (a .0);
+      most = leb-true _ _ (b .0);
+      same1 = eqb-true _ _ (c .0);
+      same2 = eqb-true _ _ (d .0);
+      same3 = eqb-true _ _ (f .0);
+      eightfold = eqb-true _ _ (f .1);
+    }
+
+-- an offset within planes that are as they should be, and a plane number
+pub record AtOffset (m : Memory) (o : ℕ) : Type 0 where
+  pub shaped : Shaped m
+  pub offset : o < length (m .p0)
+
+pub record AtPlane (m : Memory) (p o : ℕ) : Type 0 where
+  pub shaped : Shaped m
+  pub plane : p ≤ 3
+  pub offset : o < length (m .p0)
+
+pub record AtPlace (m : Memory) (j : ℕ) : Type 0 where
+  pub shaped : Shaped m
+  pub place : j < length (m .picture)
+
+module _ (m : Memory) where
+  pub offset-accepted : (o : ℕ) → offsetNumber (shape m) o ≡ 0 → AtOffset m o
+  unfolding offsetNumber
+  offset-accepted o e =
+      let a = refuse-0 _ 0 _ e in
+      let b = refuse-0 _ 2 _ (a .1) in
+      record { shaped = sound-shaped m (a .0); offset = ltb-true _ _ (b .0) }
+
+  pub shown-accepted : (o : ℕ) → shownNumber (shape m) o ≡ 0 → AtOffset m o
+  unfolding shownNumber
+  shown-accepted o e =
+      let a = refuse-0 _ 0 _ e in
+      let b = refuse-0 _ 4 _ (a .1) in
+      record { shaped = sound-shaped m (a .0); offset = ltb-true _ _ (b .0) }
+
+  pub plane-accepted : (p o : ℕ) → planeNumber (shape m) p o ≡ 0 → AtPlane m p o
+  unfolding planeNumber
+  plane-accepted p o e =
+      let a = refuse-0 _ 0 _ e in
+      let b = refuse-0 _ 3 _ (a .1) in
+      let c = refuse-0 _ 2 _ (b .1) in
+      record { shaped = sound-shaped m (a .0); plane = leb-true _ _ (b .0); offset = ltb-true _ _ (c .0) }
+
+  pub place-accepted : (j : ℕ) → placeNumber (shape m) j ≡ 0 → AtPlace m j
+  unfolding placeNumber
+  place-accepted j e =
+      let a = refuse-0 _ 0 _ e in
+      let b = refuse-0 (ltb j (8 * length (m .p0))) 4 _ (a .1) in
+      let s = sound-shaped m (a .0) in
+      record { shaped = s; place = omega (arith, ltb-true j (8 * length (m .p0)) (b .0)) }
+
+  pub access-accepted : (r : GraphicsRegisters) (s : Sequencer) (x : ℕ) (page : Bool) → accessNumber r s (shape m) x page ≡ 0 → AtOffset m (offset r x page)
+  unfolding accessNumber
+  access-accepted r s x page e =
+      let a = refuse-0 (fitsBoth r s) 5 _ e in
+      let b = refuse-0 (sound (shape m)) 0 _ (a .1) in
+      let c = refuse-0 (inWindow (memoryMap r) x) 1 _ (b .1) in
+      let d = refuse-0 _ 2 _ (c .1) in
+      record { shaped = sound-shaped m (b .0); offset = ltb-true _ _ (d .0) }
+
+-- ---- a store, plane by plane
+
+-- the planes below k that the test names
+abbrev pub below : ℕ → (ℕ → Bool) → ℕ → Bool
+below k w q = ltb q k && w q
+
+module _ (o : ℕ) (w : ℕ → Bool) (b : ℕ → ℕ) (m : Memory) where
+  pub laid-none : laid o (below 0 w) b m ≡ m
+  unfolding laid
+  laid-none = refl
+
+  pub laid-all : laid o (below 4 w) b m ≡ laid o w b m
+  unfolding laid
+  laid-all = refl
+
+  -- one plane more, where the test names it
+  pub laid-more : (k : ℕ) → k < 4 → w k ≡ true → laid o (λ q. eqb q k) b (laid o (below k w) b m) ≡ laid o (below (suc k) w) b m
+  unfolding laid
+  laid-more zero h e = rw e
+  laid-more (suc zero) h e = rw e
+  laid-more (suc (suc zero)) h e = rw e
+  laid-more (suc (suc (suc zero))) h e = rw e
+  laid-more (suc (suc (suc (suc k)))) h e = absurd (omega arith)
+
+  pub laid-skip : (k : ℕ) → k < 4 → w k ≡ false → laid o (below k w) b m ≡ laid o (below (suc k) w) b m
+  unfolding laid
+  laid-skip zero h e = rw e
+  laid-skip (suc zero) h e = rw e
+  laid-skip (suc (suc zero)) h e = rw e
+  laid-skip (suc (suc (suc zero))) h e = rw e
+  laid-skip (suc (suc (suc (suc k)))) h e = absurd (omega arith)
+
+-- a store of plane p alone, of those that a test names: where it names p, the byte and then its pixels; else nothing
+module _ (o p : ℕ) (w : ℕ → Bool) (b : ℕ → ℕ) (m : Memory) (h : p ≤ 3) where
+  pub stored-one : w p ≡ true → remade o (laid o (λ q. eqb q p) b m) ≡ stored o (λ q. eqb q p && w q) b m
+  unfolding stored laid
+  stored-one e = go p h e
+    where
+      go : (p : ℕ) → p ≤ 3 → w p ≡ true → remade o (laid o (λ q. eqb q p) b m) ≡ stored o (λ q. eqb q p && w q) b m
+      go zero l e = rw e
+      go (suc zero) l e = rw e
+      go (suc (suc zero)) l e = rw e
+      go (suc (suc (suc zero))) l e = rw e
+      go (suc (suc (suc (suc q)))) l e = absurd (omega arith)
+
+  pub stored-none : w p ≡ false → m ≡ stored o (λ q. eqb q p && w q) b m
+  unfolding stored
+  stored-none e = go p h e
+    where
+      go : (p : ℕ) → p ≤ 3 → w p ≡ false → m ≡ stored o (λ q. eqb q p && w q) b m
+      go zero l e = rw e
+      go (suc zero) l e = rw e
+      go (suc (suc zero)) l e = rw e
+      go (suc (suc (suc zero))) l e = rw e
+      go (suc (suc (suc (suc q)))) l e = absurd (omega arith)
