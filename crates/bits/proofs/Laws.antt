@@ -77,3 +77,11 @@ is-of n {x} h e = sym (of-bit n x h) ∙ of-ext n e
 
 pub bits-ext : (n : ℕ) {x y : ℕ} → x < 2 ^ n → y < 2 ^ n → ((i : ℕ) → i < n → bit i x ≡ bit i y) → x ≡ y
 bits-ext n {x} {y} h k e = is-of n h e ∙ of-bit n y k
+
+-- numbers of any width are equal where all their bits are
+lt-pow : (n : ℕ) → n < 2 ^ n
+lt-pow zero = omega arith
+lt-pow (suc n) = omega (arith, pow-suc 2 n, lt-pow n)
+
+pub all-bits : (x y : ℕ) → ((i : ℕ) → bit i x ≡ bit i y) → x ≡ y
+all-bits x y e = bits-ext (x + y) (lt-of-lt-of-le (lt-pow x) (pow-mono (omega arith))) (lt-of-lt-of-le (lt-pow y) (pow-mono (omega arith))) λ i h. e i

@@ -7,3 +7,4 @@ pub mod DataPath
 pub mod Deeds
 pub mod Calls
 pub mod Step
+pub mod Isolation

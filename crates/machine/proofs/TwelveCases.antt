@@ -1,0 +1,123 @@
+-- Document 01's twelve cases: one list of what the definitions give, one list of what the document says, one statement. By computation.
+use Prim.Native.Nat.{ℕ, _+_, _*_}
+use mathlib.Core.Path.{_≡_, refl}
+use mathlib.Core.Bool.{Bool, true, false}
+use mathlib.Core.List.{List, [], _∷_, _++_, map}
+use lib.ListN.{replicate, take}
+use Rattle.machine.specs.Memory.{Memory, mem}
+use Rattle.machine.specs.Answers.{Value, one, two, pixel, part, Said}
+use Rattle.machine.specs.Graphics.{freshGc}
+use Rattle.machine.specs.Sequencer.{freshSeq}
+use Rattle.machine.specs.Calls.{readU8, writeU8, seqWriteAddress, seqWriteData, gcReadAddress, gcReadData, gcWriteAddress, gcWriteData, gcMapAddress, cpuRead, cpuWrite}
+use Rattle.machine.specs.Step.{State, state, Call, vram, sequencer, graphics, cpu}
+use Rattle.machine.proofs.Computed.{computed}
+
+-- both register sets at their start, eight bytes a plane, all 0
+start : State
+start = state freshGc freshSeq (mem (replicate 8 0) (replicate 8 0) (replicate 8 0) (replicate 8 0) (replicate 64 0))
+
+-- an answer as numbers: its own, then its value's
+told : Said → List ℕ
+told a = a .number ∷ values (a .value)
+  where
+    values : Value → List ℕ
+    values (one x) = x ∷ []
+    values (two x y) = x ∷ y ∷ []
+    values (pixel x) = x ∷ []
+    values (part l) = l
+
+-- a register written: its number, its data
+gcTo : ℕ → ℕ → List Call
+gcTo n x = graphics (gcWriteAddress n) ∷ graphics (gcWriteData x) ∷ []
+
+seqTo : ℕ → ℕ → List Call
+seqTo n x = sequencer (seqWriteAddress n) ∷ sequencer (seqWriteData x) ∷ []
+
+-- what calls say, after others that set the registers and the memory up
+says : List Call → List Call → List ℕ
+unfolding start told computed
+says set cs = flat (computed (computed start set .final) cs .answers)
+  where
+    flat : List Said → List ℕ
+    flat [] = []
+    flat (a ∷ as′) = told a ++ flat as′
+
+-- what they leave
+leaves : List Call → Memory
+unfolding start computed
+leaves cs = computed start cs .final .memory
+
+-- where addresses lead, with Miscellaneous so and the page bit clear
+leads : ℕ → List ℕ → List ℕ
+unfolding says gcTo
+leads m xs = says (gcTo 6 m) (map (λ x. graphics (gcMapAddress x false)) xs)
+
+-- the 64K window, every plane in the mask, sequential, Bit Mask so, Data Rotate so; a latch byte in plane 0
+drawing : ℕ → ℕ → ℕ → List Call
+unfolding gcTo seqTo
+drawing mask rotate latch =
+    gcTo 6 4 ++ (seqTo 4 4 ++ (seqTo 2 15 ++ (gcTo 8 mask ++ (gcTo 3 rotate ++ (vram (writeU8 0 0 latch) ∷ cpu (cpuRead 0xA0000 false) ∷ [])))))
+
+-- the byte that a mode 0 write of x leaves in plane 0
+draws : ℕ → ℕ → ℕ → ℕ → List ℕ
+unfolding says drawing
+draws mask rotate latch x = says (drawing mask rotate latch ++ (cpu (cpuWrite 0xA0000 false x) ∷ [])) (vram (readU8 0 0) ∷ [])
+
+-- a compare read of four latches, with Color Compare 3 and Don't Care so
+compares : ℕ → List ℕ
+unfolding says gcTo
+compares care =
+    says (vram (writeU8 0 0 0xF0) ∷ vram (writeU8 1 0 0xCC) ∷ vram (writeU8 2 0 0xAA) ∷ (gcTo 6 4 ++ (gcTo 2 3 ++ (gcTo 7 care ++ gcTo 5 8))))
+    (cpu (cpuRead 0xA0000 false) ∷ [])
+
+pub cases : List (List ℕ)
+unfolding leads draws compares says leaves gcTo seqTo
+cases =
+    -- 1. 128K plain
+    leads 0 (0xBFFFF ∷ [])
+    -- 2. 128K chain
+    ∷ leads 2 (0xA0001 ∷ 0xB0001 ∷ [])
+    -- 3. 64K plain
+    ∷ leads 4 (0xAFFFF ∷ 0x9FFFF ∷ 0xB0000 ∷ [])
+    -- 4. 64K chain, both pages
+    ∷ says (gcTo 6 6) (graphics (gcMapAddress 0xA0001 false) ∷ graphics (gcMapAddress 0xA0001 true) ∷ [])
+    -- 5. B8000
+    ∷ leads 12 (0xBFFFF ∷ 0xC0000 ∷ [])
+    -- 6. map B0000
+    ∷ leads 8 (0xB0000 ∷ [])
+    -- 7. 81 rotated by 0, 1, 7
+    ∷ (draws 0xFF 0 0 0x81 ++ (draws 0xFF 1 0 0x81 ++ draws 0xFF 7 0 0x81))
+    -- 8. data F0, mask 3C, latch AA, in function order
+    ∷ (draws 0x3C 0 0xAA 0xF0 ++ (draws 0x3C 8 0xAA 0xF0 ++ (draws 0x3C 16 0xAA 0xF0 ++ draws 0x3C 24 0xAA 0xF0)))
+    -- 9. latches F0, CC, AA, 00, compare 3, Don't Care F, 3, 0
+    ∷ (compares 0xF ++ (compares 3 ++ compares 0))
+    -- 10. chain-four, offset 5, Map Mask 0, GC sequential: every byte of the planes
+    ∷ (let m = leaves (gcTo 6 4 ++ (gcTo 8 0xFF ++ (seqTo 4 12 ++ (cpu (cpuWrite 0xA0005 false 0xFF) ∷ [])))) in m .p0 ++ (m .p1 ++ (m .p2 ++ m .p3)))
+    -- 11. mode 2, byte 5, Bit Mask FF, Map Mask 7, function 0, sequential: the first byte of each plane, the first eight pixels
+    ∷ (let m = leaves (gcTo 6 4 ++ (gcTo 8 0xFF ++ (gcTo 5 2 ++ (seqTo 4 4 ++ (seqTo 2 7 ++ (cpu (cpuWrite 0xA0000 false 5) ∷ [])))))) in
+    take 1 (m .p0) ++ (take 1 (m .p1) ++ (take 1 (m .p2) ++ (take 1 (m .p3) ++ take 8 (m .picture)))))
+    -- 12. address B after 3: reads B, data go to Data Rotate
+    ∷ says (graphics (gcWriteAddress 3) ∷ graphics (gcWriteAddress 0xB) ∷ [])
+    (graphics gcReadAddress ∷ graphics (gcWriteData 0x5A) ∷ graphics (gcWriteAddress 3) ∷ graphics gcReadData ∷ [])
+    ∷ []
+
+-- an answer of `map_address` is its number, the offset, a0
+pub document : List (List ℕ)
+document =
+    (0 ∷ 0xFFFF ∷ 1 ∷ [])
+    ∷ (0 ∷ 0 ∷ 1 ∷ 0 ∷ 1 ∷ 1 ∷ [])
+    ∷ (0 ∷ 0xFFFF ∷ 1 ∷ 2 ∷ 0 ∷ 0 ∷ 2 ∷ 0 ∷ 0 ∷ [])
+    ∷ (0 ∷ 0 ∷ 1 ∷ 0 ∷ 1 ∷ 1 ∷ [])
+    ∷ (0 ∷ 0x7FFF ∷ 1 ∷ 2 ∷ 0 ∷ 0 ∷ [])
+    ∷ (2 ∷ 0 ∷ 0 ∷ [])
+    ∷ (0 ∷ 0x81 ∷ 0 ∷ 0xC0 ∷ 0 ∷ 0x03 ∷ [])
+    ∷ (0 ∷ 0xB2 ∷ 0 ∷ 0xA2 ∷ 0 ∷ 0xBA ∷ 0 ∷ 0x9A ∷ [])
+    ∷ (0 ∷ 0x40 ∷ 0 ∷ 0xC0 ∷ 0 ∷ 0xFF ∷ [])
+    ∷ (replicate 8 0 ++ ((0 ∷ 0 ∷ 0 ∷ 0 ∷ 0xFF ∷ 0 ∷ 0 ∷ 0 ∷ []) ++ replicate 16 0))
+    ∷ (0xFF ∷ 0x00 ∷ 0xFF ∷ 0x00 ∷ replicate 8 5)
+    ∷ (0 ∷ 0xB ∷ 0 ∷ 0 ∷ 0 ∷ 0 ∷ 0 ∷ 0x5A ∷ [])
+    ∷ []
+
+pub twelve-cases : cases ≡ document
+unfolding cases document
+twelve-cases = refl

@@ -1,0 +1,185 @@
+-- Demand 3's words: two states alike but for plane k, what the calls may not ask, and what then agrees.
+use Prim.Native.Nat.{ℕ, suc, _+_, _*_, _/_, _%_, _^_}
+use mathlib.Core.Logic.{_≢_}
+use mathlib.Core.Path.{_≡_}
+use mathlib.Core.List.{List, [], _∷_, map}
+use lib.ListN.{length}
+use Rattle.bits.specs.Bit.{bit}
+use Rattle.machine.specs.declared.graphics.GraphicsRegisters.{GraphicsRegisters}
+use Rattle.machine.specs.declared.graphics.GraphicsController.{GraphicsController}
+use Rattle.machine.specs.declared.graphics.ReadMode.{ReadMode}
+use Rattle.machine.specs.declared.graphics.ReadMode.the-variants.{ReadSelectedPlane, ReadComparedPlanes}
+use Rattle.machine.specs.Memory.{Memory, plane}
+use Rattle.machine.specs.Answers.{Value, one, two, pixel, part, Said, said, Outcome}
+use Rattle.machine.specs.Graphics.{readMode}
+use Rattle.machine.specs.DataPath.{selectedPlane}
+use Rattle.machine.specs.Deeds.{latch}
+use Rattle.machine.specs.Calls.{VramCall, readU8, peekU8, readGlyph, readLinear, serializeLinear, writeU8, planeSet, planeAnd, planeOr, deplane}
+use Rattle.machine.specs.Calls.{DirectCall, seqCpuReadU8, seqPeekU8, seqGcReadU8, seqReadLinear, seqSerializeLinear, seqPlaneSet, seqPlaneAnd, seqPlaneOr}
+use Rattle.machine.specs.Calls.{CpuCall, cpuRead, cpuPeek, cpuWrite, serialize}
+use Rattle.machine.specs.Step.{State, Call, vram, sequencer, direct, graphics, cpu, step}
+
+-- ---- two states alike, lengths included, except in plane k's bytes, latch k and bit k of each pixel
+
+-- two pixels agree in every bit but k
+unfoldable pub Agree : ℕ → ℕ → ℕ → Type 0
+Agree k x y = (b : ℕ) → b ≢ k → bit b x ≡ bit b y
+
+-- two lists of one length, related entry by entry
+pub data Both {A : Type 0} (R : A → A → Type 0) : List A → List A → Type 0 where
+  none : Both R [] []
+  more : {x y : A} {l u : List A} → R x y → Both R l u → Both R (x ∷ l) (y ∷ u)
+
+pub record AlikeMemory (k : ℕ) (m n : Memory) : Type 0 where
+  pub planes : (p : ℕ) → p ≢ k → plane m p ≡ plane n p
+  pub lengths : (p : ℕ) → length (plane m p) ≡ length (plane n p)
+  pub pictures : Both (Agree k) (m .picture) (n .picture)
+
+unfoldable pub AlikeLatches : ℕ → List ℕ → List ℕ → Type 0
+AlikeLatches k l u = (p : ℕ) → p ≢ k → latch l p ≡ latch u p
+
+pub record AlikeRegisters (k : ℕ) (r q : GraphicsRegisters) : Type 0 where
+  pub same : r ≡ q
+
+pub record AlikeGc (k : ℕ) (g h : GraphicsController) : Type 0 where
+  pub registers : AlikeRegisters k (g .registers) (h .registers)
+  pub stats : g .stats ≡ h .stats
+  pub latches : AlikeLatches k (g .latches) (h .latches)
+
+pub record Alike (k : ℕ) (s t : State) : Type 0 where
+  pub gc : AlikeGc k (s .gc) (t .gc)
+  pub seq : s .seq ≡ t .seq
+  pub memory : AlikeMemory k (s .memory) (t .memory)
+
+-- ---- the premise, call by call
+
+abbrev pub accepted : State → Call → Type 0
+accepted s c = step s c .answer .number ≡ 0
+
+-- a direct plane read is any read by plane in vram.rs, each `peek_u8` included, and `read_glyph` (plane 2) ..
+unfoldable pub vramNotFrom : ℕ → VramCall → Type 0
+vramNotFrom k (readU8 p o) = p ≢ k
+vramNotFrom k (peekU8 p o) = p ≢ k
+vramNotFrom k (readGlyph o) = 2 ≢ k
+vramNotFrom k (readLinear j) = Unit {0}
+vramNotFrom k (serializeLinear o) = Unit {0}
+vramNotFrom k (writeU8 p o x) = Unit {0}
+vramNotFrom k (planeSet p o x) = Unit {0}
+vramNotFrom k (planeAnd p o x) = Unit {0}
+vramNotFrom k (planeOr p o x) = Unit {0}
+vramNotFrom k (deplane o) = Unit {0}
+
+-- .. or in the sequencer
+unfoldable pub directNotFrom : ℕ → DirectCall → Type 0
+directNotFrom k (seqCpuReadU8 p o a) = p ≢ k
+directNotFrom k (seqPeekU8 p o a) = p ≢ k
+directNotFrom k (seqGcReadU8 p o a) = p ≢ k
+directNotFrom k (seqReadLinear j) = Unit {0}
+directNotFrom k (seqSerializeLinear o) = Unit {0}
+directNotFrom k (seqPlaneSet p o a x) = Unit {0}
+directNotFrom k (seqPlaneAnd p o a x) = Unit {0}
+directNotFrom k (seqPlaneOr p o a x) = Unit {0}
+
+-- a selected-plane read answers from the selected plane; a compare read is no such read
+unfoldable pub selectedNotFrom : ℕ → ReadMode → GraphicsRegisters → ℕ → Type 0
+selectedNotFrom k ReadSelectedPlane r x = selectedPlane r x ≢ k
+selectedNotFrom k ReadComparedPlanes r x = Unit {0}
+
+unfoldable pub cpuNotFrom : ℕ → GraphicsRegisters → CpuCall → Type 0
+cpuNotFrom k r (cpuRead x page) = selectedNotFrom k (readMode r) r x
+cpuNotFrom k r (cpuPeek x page) = Unit {0}
+cpuNotFrom k r (cpuWrite x page v) = Unit {0}
+cpuNotFrom k r (serialize o) = Unit {0}
+
+-- no selected-plane or direct plane read answers from plane k
+unfoldable pub NotFrom : ℕ → State → Call → Type 0
+NotFrom k s (vram c) = vramNotFrom k c
+NotFrom k s (sequencer c) = Unit {0}
+NotFrom k s (direct c) = directNotFrom k c
+NotFrom k s (graphics c) = Unit {0}
+NotFrom k s (cpu c) = cpuNotFrom k (s .gc .registers) c
+
+-- a compare read has k's Color Don't Care bit clear
+unfoldable pub comparedWithout : ℕ → ReadMode → GraphicsRegisters → Type 0
+comparedWithout k ReadSelectedPlane r = Unit {0}
+comparedWithout k ReadComparedPlanes r = bit k (r .«color_dont_care») ≡ 0
+
+unfoldable pub cpuWithout : ℕ → GraphicsRegisters → CpuCall → Type 0
+cpuWithout k r (cpuRead x page) = comparedWithout k (readMode r) r
+cpuWithout k r (cpuPeek x page) = Unit {0}
+cpuWithout k r (cpuWrite x page v) = Unit {0}
+cpuWithout k r (serialize o) = Unit {0}
+
+unfoldable pub ComparesWithout : ℕ → State → Call → Type 0
+ComparesWithout k s (vram c) = Unit {0}
+ComparesWithout k s (sequencer c) = Unit {0}
+ComparesWithout k s (direct c) = Unit {0}
+ComparesWithout k s (graphics c) = Unit {0}
+ComparesWithout k s (cpu c) = cpuWithout k (s .gc .registers) c
+
+-- where k is 0, there is no peek
+unfoldable pub cpuNoPeek : ℕ → CpuCall → Type 0
+cpuNoPeek k (cpuRead x page) = Unit {0}
+cpuNoPeek k (cpuPeek x page) = 0 ≢ k
+cpuNoPeek k (cpuWrite x page v) = Unit {0}
+cpuNoPeek k (serialize o) = Unit {0}
+
+unfoldable pub NoPeek : ℕ → Call → Type 0
+NoPeek k (vram c) = Unit {0}
+NoPeek k (sequencer c) = Unit {0}
+NoPeek k (direct c) = Unit {0}
+NoPeek k (graphics c) = Unit {0}
+NoPeek k (cpu c) = cpuNoPeek k c
+
+-- the mission's words; a refused read answers from no plane
+pub record Obeys (k : ℕ) (s : State) (c : Call) : Type 0 where
+  pub reads : accepted s c → NotFrom k s c
+  pub compares : accepted s c → ComparesWithout k s c
+  pub peeks : NoPeek k c
+
+-- the same with peeks that are refused let through
+pub record ObeysAccepted (k : ℕ) (s : State) (c : Call) : Type 0 where
+  pub reads : accepted s c → NotFrom k s c
+  pub compares : accepted s c → ComparesWithout k s c
+  pub peeks : accepted s c → NoPeek k c
+
+-- a premise kept by each call of a run
+unfoldable pub Along : (State → Call → Type 0) → State → List Call → Type 0
+Along P s [] = Unit {0}
+Along P s (c ∷ cs) = P s c × Along P (step s c .next) cs
+
+-- ---- the conclusion
+
+-- pixels handed out may differ in bit k only
+pub data AlikeValue (k : ℕ) : Value → Value → Type 0 where
+  same : {v : Value} → AlikeValue k v v
+  pixels : {x y : ℕ} → Agree k x y → AlikeValue k (pixel x) (pixel y)
+  parts : {l u : List ℕ} → Both (Agree k) l u → AlikeValue k (part l) (part u)
+
+pub record AlikeSaid (k : ℕ) (a b : Said) : Type 0 where
+  pub number : a .number ≡ b .number
+  pub value : AlikeValue k (a .value) (b .value)
+
+-- two outcomes whose answers agree and whose next states are related
+pub record Together (k : ℕ) {S : Type 0} (R : S → S → Type 0) (o u : Outcome S) : Type 0 where
+  pub answer : AlikeSaid k (o .answer) (u .answer)
+  pub next : R (o .next) (u .next)
+
+-- answers, refusals, registers, counters, other latches, other planes and other pixel bits agree throughout: before the first call, and at each
+unfoldable pub Throughout : ℕ → State → State → List Call → Type 0
+Throughout k s t [] = Alike k s t
+Throughout k s t (c ∷ cs) = Alike k s t × Together k (Alike k) (step s c) (step t c) × Throughout k (step s c .next) (step t c .next) cs
+
+-- a number less its bit k
+unfoldable pub less : ℕ → ℕ → ℕ
+less k x = x / 2 ^ suc k * 2 ^ suc k + x % 2 ^ k
+
+-- what is handed out, less bit k of each pixel
+unfoldable pub lessSaid : ℕ → Said → Said
+lessSaid k a = said (a .number) (lessValue (a .value))
+  where
+    lessValue : Value → Value
+    lessValue (one x) = one x
+    lessValue (two x y) = two x y
+    lessValue (pixel x) = pixel (less k x)
+    lessValue (part l) = part (map (less k) l)
