@@ -4,3 +4,4 @@ pub mod Isolation
 pub mod NoPrice
 pub mod Computed
 pub mod TwelveCases
+pub mod Refusals

@@ -8,3 +8,4 @@ pub mod Deeds
 pub mod Calls
 pub mod Step
 pub mod Isolation
+pub mod Claims

@@ -67,12 +67,25 @@ pub data Call : Type 0 where
 abbrev pub lifted : {S T : Type 0} → (S → T) → Outcome S → Outcome T
 lifted f o = outcome (o .answer) (f (o .next))
 
+-- the whole with a new part
+abbrev pub withMemory : State → Memory → State
+withMemory s m = state (s .gc) (s .seq) m
+
+abbrev pub withSeq : State → Sequencer → State
+withSeq s q = state (s .gc) q (s .memory)
+
+abbrev pub withGc : State → GraphicsController → State
+withGc s g = state g (s .seq) (s .memory)
+
+abbrev pub withDevice : State → Device → State
+withDevice s d = state (d .gc) (s .seq) (d .memory)
+
 unfoldable pub step : State → Call → Outcome State
-step s (vram c) = lifted (state (s .gc) (s .seq)) (vramStep (s .memory) c)
-step s (sequencer c) = lifted (λ q. state (s .gc) q (s .memory)) (sequencerStep (s .seq) c)
-step s (direct c) = lifted (state (s .gc) (s .seq)) (directStep (s .seq) (s .memory) c)
-step s (graphics c) = lifted (λ g. state g (s .seq) (s .memory)) (graphicsStep (s .gc) c)
-step s (cpu c) = lifted (λ d. state (d .gc) (s .seq) (d .memory)) (cpuStep (s .gc) (s .seq) (s .memory) c)
+step s (vram c) = lifted (withMemory s) (vramStep (s .memory) c)
+step s (sequencer c) = lifted (withSeq s) (sequencerStep (s .seq) c)
+step s (direct c) = lifted (withMemory s) (directStep (s .seq) (s .memory) c)
+step s (graphics c) = lifted (withGc s) (graphicsStep (s .gc) c)
+step s (cpu c) = lifted (withDevice s) (cpuStep (s .gc) (s .seq) (s .memory) c)
 
 -- ---- call after call
 
