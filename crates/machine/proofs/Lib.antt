@@ -5,3 +5,6 @@ pub mod NoPrice
 pub mod Computed
 pub mod TwelveCases
 pub mod Refusals
+pub mod Counters
+pub mod Pictures
+pub mod Once
