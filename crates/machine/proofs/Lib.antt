@@ -8,3 +8,4 @@ pub mod Refusals
 pub mod Counters
 pub mod Pictures
 pub mod Once
+pub mod Injective
