@@ -1,5 +1,5 @@
 -- `&`, `|`, `^`, `!` and shifts, bit by bit: `simp bitwise` turns bit i of an expression on numbers into the same expression on bits.
-use Prim.Native.Nat.{ℕ, zero, suc, _+_, _-_, _*_, _/_, _%_, _^_, _≤_, _<_, min, max}
+use Prim.Native.Nat.{ℕ, zero, suc, _+_, _-_, _*_, _/_, _%_, _^_, _<_, min, max}
 use native.Mathlib.Nat.{pow-suc, lt-of-le-of-lt, le-of-suc-le-suc, not-suc-le-zero, mod-eq-of-lt}
 use native.Mathlib.Numerals.{add-one}
 use native.Mathlib.Omega.{arith}
@@ -7,8 +7,8 @@ use mathlib.Core.Path.{_≡_, sym, ap, _∙_}
 use lib.Arith.{digits-mod}
 use lib.Pow.{shr-lt, shl-shr, pow-lt, pow-add}
 use lib.Bits.{bitAnd, bitOr, bitXor, differ, and-step, or-step, xor-step, and-shr, or-shr, xor-shr, and-le-r, or-lt, xor-lt, and-mask, and-high, shifted-even, shifted-half}
-use Rattle.bits.specs.Bit.{bit, ofBits, byteOf}
-use Rattle.bits.proofs.Laws.{bit-lt, bit-zero, bit-suc, bit-shr, bit-of}
+use Rattle.bits.specs.Bit.{bit, byteOf}
+use Rattle.bits.proofs.Laws.{bit-zero, bit-suc, bit-shr, bit-of}
 
 -- ---- the operations
 

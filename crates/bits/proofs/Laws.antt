@@ -1,5 +1,5 @@
 -- The laws of `bit` and `ofBits`, over any width: what a proof about shifts, masks and bytes cites, so that none looks inside the two.
-use Prim.Native.Nat.{ℕ, zero, suc, _+_, _-_, _*_, _/_, _%_, _^_, _≤_, _<_, min, max, zero-le, suc-le-suc}
+use Prim.Native.Nat.{ℕ, zero, suc, _+_, _*_, _/_, _%_, _^_, _≤_, _<_, zero-le, suc-le-suc}
 use native.Mathlib.Nat.{pow-suc, div-div-eq-div-mul, mul-comm, div-eq-of-lt, lt-of-lt-of-le, le-of-suc-le-suc, not-suc-le-zero}
 use native.Mathlib.Numerals.{add-one}
 use native.Mathlib.Omega.{arith}

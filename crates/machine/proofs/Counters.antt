@@ -1,8 +1,7 @@
 -- `counters-sum`: from a reset the six counters add up, modulo 2^32, to the processor's accepted reads and writes since.
-use Prim.Native.Nat.{ℕ, zero, suc, _+_, _%_, _^_, _<_}
+use Prim.Native.Nat.{ℕ, zero, suc, _+_, _%_, _^_}
 use native.Mathlib.Omega.{arith}
-use mathlib.Core.Path.{_≡_, refl, sym, ap, _∙_}
-use mathlib.Core.Bool.{Bool, true, false}
+use mathlib.Core.Path.{_≡_, refl, ap, _∙_}
 use mathlib.Core.List.{List, [], _∷_}
 use lib.Dec.{eqb, eqb·suc-zero}
 use Rattle.bits.specs.Bit.{pick}
@@ -14,13 +13,12 @@ use Rattle.machine.specs.declared.graphics.WriteMode.the-variants.{Mode0
 use Rattle.machine.specs.declared.graphics.ReadMode.{ReadMode}
 use Rattle.machine.specs.declared.graphics.ReadMode.the-variants.{ReadSelectedPlane, ReadComparedPlanes}
 use Rattle.machine.specs.declared.sequencer.Sequencer.{Sequencer}
-use Rattle.machine.specs.Memory.{Memory, Shape, shape}
-use Rattle.machine.specs.Answers.{Value, Outcome, answered}
-use Rattle.machine.specs.Deeds.{valueOf}
-use Rattle.machine.specs.Graphics.{gcOf, readMode, writeMode}
+use Rattle.machine.specs.Memory.{Shape, shape}
+use Rattle.machine.specs.Answers.{Value, answered}
+use Rattle.machine.specs.Graphics.{readMode, writeMode}
 use Rattle.machine.specs.Calls.{GraphicsCall, gcReset, gcChain, gcChain4, gcMemoryMap, gcOddEven, gcShiftMode, gcReadAddress, gcReadData, gcWriteAddress, gcWriteData, gcMapAddress, gcNumberOf, gcValue, gcNext}
-use Rattle.machine.specs.Calls.{CpuCall, cpuRead, cpuPeek, cpuWrite, serialize, writeCounter, readCounter, counted, CpuPlan, cpuPlan}
-use Rattle.machine.specs.Step.{graphicsStep, cpuStep, cpuAfter, Device, device, State, Call, vram, sequencer, direct, graphics, cpu, step, run}
+use Rattle.machine.specs.Calls.{CpuCall, cpuRead, cpuPeek, cpuWrite, serialize, writeCounter, readCounter, counted, cpuPlan}
+use Rattle.machine.specs.Step.{graphicsStep, cpuStep, Device, State, Call, vram, sequencer, direct, graphics, cpu, step, run}
 use Rattle.machine.specs.Claims.{total, accesses, sinceReset, counts, tally}
 
 -- the total after so many counted accesses more
@@ -72,22 +70,15 @@ module _ (n : ℕ) (s : State) (h : Shows n s) where
   graphics-shows (gcWriteData x) = kept (gcNumberOf (s .gc .registers) (gcWriteData x)) (gcValue (s .gc .registers) (gcWriteData x)) (gcNext (s .gc) (gcWriteData x)) refl
   graphics-shows (gcMapAddress x page) = kept (gcNumberOf (s .gc .registers) (gcMapAddress x page)) (gcValue (s .gc .registers) (gcMapAddress x page)) (gcNext (s .gc) (gcMapAddress x page)) refl
 
+  -- an answer that counts so many accesses where it is given, and none where it is refused
+  answered-shows : (k i : ℕ) (v : Value) (new old : Device) → More i (new .gc .stats) (s .gc .stats) → old .gc .stats ≡ s .gc .stats
+      → total (answered k v new old .next .gc .stats) % 2 ^ 32 ≡ pick (eqb (answered k v new old .answer .number) 0) (n + i) n % 2 ^ 32
+  answered-shows zero i v new old more same = more ∙ omega arith
+  answered-shows (suc k) i v new old more same = rw (eqb·suc-zero k) (ap (λ (c : GraphicsControllerStats). total c % 2 ^ 32) same ∙ h)
+
   cpu-shows : (c : CpuCall) → total (step s (cpu c) .next .gc .stats) % 2 ^ 32 ≡ counts n s (cpu c) % 2 ^ 32
   unfolding step cpuStep counts
-  cpu-shows c = go (plan .ask .number)
-    where
-      plan : CpuPlan
-      plan = cpuPlan (s .gc .registers) (s .seq) (shape (s .memory)) c
-
-      reply : Value
-      reply = valueOf (plan .ask .reply) (cpuAfter plan (s .gc) (s .memory) .gc .latches) (cpuAfter plan (s .gc) (s .memory) .memory)
-
-      answer : ℕ → Outcome Device
-      answer k = answered k reply (cpuAfter plan (s .gc) (s .memory)) (device (s .gc) (s .memory))
-
-      go : (k : ℕ) → total (answer k .next .gc .stats) % 2 ^ 32 ≡ pick (eqb (answer k .answer .number) 0) (n + accesses c) n % 2 ^ 32
-      go zero = cpu-counted (s .gc .stats) (s .gc .registers) (s .seq) (shape (s .memory)) c ∙ omega arith
-      go (suc k) = rw (eqb·suc-zero k) h
+  cpu-shows c = answered-shows (cpuPlan (s .gc .registers) (s .seq) (shape (s .memory)) c .ask .number) (accesses c) _ _ _ (cpu-counted (s .gc .stats) (s .gc .registers) (s .seq) (shape (s .memory)) c) refl
 
   step-shows : (c : Call) → Shows (counts n s c) (step s c .next)
   unfolding step counts

@@ -1,12 +1,11 @@
 -- Each answer is told by its number and value: what is said of two answers is the same only where they are. By a way back for each kind of answer.
-use Prim.Native.Nat.{ℕ, zero, suc}
+use Prim.Native.Nat.{ℕ}
 use mathlib.Core.Path.{_≡_, refl, sym, ap, _∙_}
-use mathlib.Core.Bool.{Bool, true, false}
-use mathlib.Core.List.{List, [], _∷_}
+use mathlib.Core.Bool.{true, false}
+use mathlib.Core.List.{[], _∷_}
 use lib.Dec.{eqb}
 use lib.ListN.{getD}
 use Rattle.bits.specs.Bit.{isOne, pick}
-use Rattle.machine.specs.declared.place.PlaneOffset.{PlaneOffset}
 use Rattle.machine.specs.declared.answer.Refusal.{Refusal}
 use Rattle.machine.specs.declared.answer.Refusal.the-variants.{Memory, Window, Offset, Plane, Place, State, Damaged, Range, Shift, Room}
 use Rattle.machine.specs.declared.answer.ByteAnswer.{ByteAnswer}
@@ -33,7 +32,7 @@ use Rattle.machine.specs.declared.graphics.OddEvenModeComplement.{OddEve
 use Rattle.machine.specs.declared.graphics.OddEvenModeComplement.the-variants.{Sequential, OddEven}
 use Rattle.machine.specs.declared.graphics.ShiftMode.{ShiftMode}
 use Rattle.machine.specs.declared.graphics.ShiftMode.the-variants.{Standard, CGACompatible, Chain4, Unused}
-use Rattle.machine.specs.Answers.{refusalNumber, Value, one, two, pixel, part, Said, mapNumber, oddEvenNumber, shiftNumber, byteSaid, pixelSaid, storeSaid, doneSaid, flagSaid, clockSaid, mapSaid, oddEvenSaid, shiftSaid, mappedSaid}
+use Rattle.machine.specs.Answers.{refusalNumber, Value, one, two, pixel, part, Said, byteSaid, pixelSaid, storeSaid, doneSaid, flagSaid, clockSaid, mapSaid, oddEvenSaid, shiftSaid, mappedSaid}
 
 -- what has a way back tells its arguments apart
 injective : {A B : Type 0} (f : A → B) (back : B → A) → ((a : A) → back (f a) ≡ a) → (a b : A) → f a ≡ f b → a ≡ b

@@ -1,33 +1,33 @@
 -- Demand 3: two runs alike but for plane k stay so. Proved once over deeds and replies, whatever the number of calls.
-use Prim.Native.Nat.{ℕ, zero, suc, _+_, _*_, _-_, _/_, _%_, _^_, _<_, _≤_}
+use Prim.Native.Nat.{ℕ, zero, suc, _-_, _<_}
 use native.Mathlib.Decide.{decLt, ℕ-discrete}
 use native.Mathlib.Omega.{arith}
 use mathlib.Core.Logic.{_≢_}
 use mathlib.Core.Path.{_≡_, refl, sym, ap, ap₂, _∙_, subst, fun-ext}
-use mathlib.Core.Bool.{Bool, true, false, _||_}
-use mathlib.Core.List.{List, [], _∷_, map}
-use lib.Dec.{eqb}
+use mathlib.Core.Bool.{Bool, true, false}
+use mathlib.Core.List.{List, [], _∷_}
 use lib.ListN.{length, getD, set, take, drop, length-set}
 use lib.Seq.{sets}
-use Rattle.bits.specs.Bit.{bit, ofBits, byteOf, isOne, bitOf, pick, every}
+use Rattle.bits.specs.Bit.{bit, ofBits, bitOf, pick, every}
 use Rattle.bits.proofs.Laws.{bit-lt, bit-of, bit-high, of-lt, of-ext}
 use Rattle.machine.specs.declared.graphics.GraphicsController.{GraphicsController}
 use Rattle.machine.specs.declared.graphics.GraphicsRegisters.{GraphicsRegisters}
 use Rattle.machine.specs.declared.graphics.ReadMode.{ReadMode}
 use Rattle.machine.specs.declared.graphics.ReadMode.the-variants.{ReadSelectedPlane, ReadComparedPlanes}
 use Rattle.machine.specs.declared.sequencer.Sequencer.{Sequencer}
-use Rattle.machine.specs.Memory.{Memory, mem, plane, planes, Shape, shape}
-use Rattle.machine.specs.Answers.{Value, one, two, pixel, part, blank, Said, said, Outcome, answered}
+use Rattle.machine.specs.Memory.{Memory, plane, planes, Shape, shape}
+use Rattle.machine.specs.Answers.{Value, blank, Outcome, answered}
 use Rattle.machine.specs.Graphics.{gcOf, readMode, withAddress, withData}
 use Rattle.machine.specs.Address.{offset}
-use Rattle.machine.specs.Deeds.{Deed, rest, load, store, remake, Reply, known, byteAt, compare, pixelAt, pixelsAt, Plan, byte, latch, loaded, pixelOf, eight, remade, storedByte, laid, any, stored, compared, latchesAfter, memoryAfter, valueOf, perform}
+use Rattle.machine.specs.Deeds.{Deed, rest, load, store, remake, Reply, known, byteAt, compare, pixelAt, pixelsAt, Plan, byte, latch, loaded, pixelOf, eight, remade, storedByte, laid, any, stored, agrees, compared, latchesAfter, memoryAfter, valueOf, perform}
 use Rattle.machine.specs.Calls.{VramCall, readU8, peekU8, readGlyph, readLinear, serializeLinear, writeU8, planeSet, planeAnd, planeOr, deplane, vramPlan}
 use Rattle.machine.specs.Calls.{DirectCall, seqCpuReadU8, seqPeekU8, seqGcReadU8, seqReadLinear, seqSerializeLinear, seqPlaneSet, seqPlaneAnd, seqPlaneOr, directPlan}
 use Rattle.machine.specs.Calls.{GraphicsCall, gcReset, gcChain, gcChain4, gcMemoryMap, gcOddEven, gcShiftMode, gcReadAddress, gcReadData, gcWriteAddress, gcWriteData, gcMapAddress, gcNumberOf, gcValue, gcNext}
 use Rattle.machine.specs.Calls.{CpuCall, cpuRead, cpuPeek, cpuWrite, serialize, CpuPlan, cpuPlan, readReply, counted}
-use Rattle.machine.specs.Step.{vramStep, sequencerStep, directStep, graphicsStep, Device, device, cpuAfter, cpuPerform, cpuStep, State, state, Call, vram, sequencer, direct, graphics, cpu, lifted, step, Run, run}
-use Rattle.machine.specs.Isolation.{Agree, Both, none, more, AlikeMemory, AlikeLatches, AlikeRegisters, AlikeGc, Alike, accepted, vramNotFrom, directNotFrom, selectedNotFrom, cpuNotFrom, NotFrom, comparedWithout, cpuWithout, ComparesWithout, cpuNoPeek, NoPeek, Obeys, ObeysAccepted, Along}
-use Rattle.machine.specs.Isolation.{AlikeValue, same, pixels, parts, AlikeSaid, Together, Throughout}
+use Rattle.machine.specs.Step.{vramStep, sequencerStep, directStep, graphicsStep, Device, device, cpuAfter, cpuPerform, cpuStep, State, Call, vram, sequencer, direct, graphics, cpu, lifted, step}
+use Rattle.machine.specs.Isolation.{Agree, Both, none, more, AlikeMemory, AlikeLatches, AlikeGc, Alike, vramNotFrom, directNotFrom, selectedNotFrom, cpuNotFrom, NotFrom, comparedWithout, cpuWithout, ComparesWithout, cpuNoPeek, NoPeek, Obeys, ObeysAccepted, Along}
+use Rattle.machine.specs.Isolation.{AlikeValue, same, pixels, parts, Together, Throughout}
+use Rattle.machine.proofs.Laws.{answered-number}
 
 -- ---- lists related entry by entry
 
@@ -134,7 +134,7 @@ module _ (k : ℕ) where
 
     remade-alike : (o : ℕ) → AlikeMemory k (remade o m) (remade o n)
     unfolding remade
-    remade-alike o = alike-planes (plane m) (plane n) (a .planes) (a .lengths) _ _ (both-sets (8 * o) (both-eight _ _ (pixel-agree o)) (a .pictures))
+    remade-alike o = alike-planes (plane m) (plane n) (a .planes) (a .lengths) _ _ (both-sets _ (both-eight _ _ (pixel-agree o)) (a .pictures))
 
     laid-alike : (o : ℕ) (w : ℕ → Bool) (b c : ℕ → ℕ) → ((p : ℕ) → p ≢ k → b p ≡ c p) → AlikeMemory k (laid o w b m) (laid o w c n)
     unfolding laid
@@ -188,16 +188,17 @@ module _ (k : ℕ) where
 
       -- ---- the replies
 
-      compared-same : (care colour : ℕ) → bit k care ≡ 0 → compared care colour l ≡ compared care colour u
-      unfolding compared AlikeLatches
-      compared-same care colour clear = of-ext 8 λ i h. ap bitOf (ap (every 4) (fun-ext λ p. plane-same i p))
+      agrees-same : (care colour i p : ℕ) → bit k care ≡ 0 → agrees care colour l i p ≡ agrees care colour u i p
+      unfolding agrees AlikeLatches
+      agrees-same care colour i p clear = go (ℕ-discrete p k)
         where
-          plane-same : (i p : ℕ) → pick (isOne (bit p care)) (eqb (bit i (latch l p)) (bit p colour)) true ≡ pick (isOne (bit p care)) (eqb (bit i (latch u p)) (bit p colour)) true
-          plane-same i p = go (ℕ-discrete p k)
-            where
-              go : Dec (p ≡ k) → pick (isOne (bit p care)) (eqb (bit i (latch l p)) (bit p colour)) true ≡ pick (isOne (bit p care)) (eqb (bit i (latch u p)) (bit p colour)) true
-              go (yes e) = rw (e, clear)
-              go (no ne) = rw (v p ne)
+          go : Dec (p ≡ k) → agrees care colour l i p ≡ agrees care colour u i p
+          go (yes e) = rw (e, clear)
+          go (no ne) = rw (v p ne)
+
+      compared-same : (care colour : ℕ) → bit k care ≡ 0 → compared care colour l ≡ compared care colour u
+      unfolding compared
+      compared-same care colour clear = of-ext 8 λ i h. ap (λ (f : ℕ → Bool). bitOf (every 4 f)) (fun-ext λ p. agrees-same care colour i p clear)
 
       value-same : {q r : Reply} → AlikeReply k q r → Silent k q → AlikeValue k (valueOf q l m) (valueOf r u n)
       unfolding valueOf Silent
@@ -205,8 +206,8 @@ module _ (k : ℕ) where
         where
           go : (r : Reply) → Silent k r → AlikeValue k (valueOf r l m) (valueOf r u n)
           go (known w) h = same
-          go (byteAt p o) h = subst (λ x. AlikeValue k (one (byte m p o)) (one x)) (byte-same m n a p o h) same
-          go (compare care colour) h = subst (λ x. AlikeValue k (one (compared care colour l)) (one x)) (compared-same care colour h) same
+          go (byteAt p o) h = rw (byte-same m n a p o h) same
+          go (compare care colour) h = rw (compared-same care colour h) same
           go (pixelAt j) h = pixels (both-at j 0 (agree-self 0) (a .pictures))
           go (pixelsAt j) h = parts (both-take 8 (both-drop j (a .pictures)))
 
@@ -342,10 +343,6 @@ module _ (k : ℕ) where
 
   -- ---- the mission's premise makes each reply silent
 
-  answered-number : {S : Type 0} (n : ℕ) (v : Value) (new old : S) → answered n v new old .answer .number ≡ n
-  answered-number zero v new old = refl
-  answered-number (suc n) v new old = refl
-
   vram-silent : (h : Shape) (c : VramCall) → vramNotFrom k c → Silent k (vramPlan h c .reply)
   unfolding vramNotFrom vramPlan Silent
   vram-silent h (readU8 p o) n = n
@@ -384,12 +381,12 @@ module _ (k : ℕ) where
 
   permitted : (s : State) (c : Call) → ObeysAccepted k s c → Permitted s c
   unfolding Permitted NotFrom ComparesWithout NoPeek step vramStep directStep cpuStep perform
-  permitted s (vram c) o = λ z. vram-silent (shape (s .memory)) c (o .reads (answered-number _ _ _ _ ∙ z))
+  permitted s (vram c) o = λ z. vram-silent (shape (s .memory)) c (o .reads (sym (answered-number _ _ _ _) ∙ z))
   permitted s (sequencer c) o = tt
-  permitted s (direct c) o = λ z. direct-silent (s .seq) (shape (s .memory)) c (o .reads (answered-number _ _ _ _ ∙ z))
+  permitted s (direct c) o = λ z. direct-silent (s .seq) (shape (s .memory)) c (o .reads (sym (answered-number _ _ _ _) ∙ z))
   permitted s (graphics c) o = tt
   permitted s (cpu c) o = λ z.
-      let e = answered-number _ _ _ _ ∙ z in
+      let e = sym (answered-number _ _ _ _) ∙ z in
       cpu-silent (s .gc .registers) (s .seq) (shape (s .memory)) c (o .reads e) (o .compares e) (o .peeks e)
 
 -- ---- demand 3

@@ -1,25 +1,28 @@
 -- What the proofs of the code cite of the machine: an answer by its number, what an accepted check says, a store plane by plane.
 use Prim.Native.Nat.{ℕ, zero, suc, _*_, _≤_, _<_}
 use native.Mathlib.Omega.{arith}
-use mathlib.Core.Path.{_≡_, refl, sym, ap, _∙_}
+use mathlib.Core.Path.{_≡_, refl}
 use mathlib.Core.Bool.{Bool, true, false, _&&_}
-use mathlib.Core.List.{List, []}
-use lib.Dec.{eqb, ltb, leb}
+use mathlib.Core.List.{[]}
+use lib.Dec.{eqb, ltb}
 use lib.ListN.{length}
 use borrow.Author.Tests.{ltb-true, leb-true, eqb-true}
-use Rattle.bits.specs.Bit.{pick}
 use Rattle.machine.specs.declared.answer.Refusal.{Refusal}
 use Rattle.machine.specs.declared.answer.Refusal.the-variants.{Memory as NoMemory, Window, Offset, Plane, Place, State, Damaged, Range, Shift, Room}
 use Rattle.machine.specs.declared.graphics.GraphicsRegisters.{GraphicsRegisters}
 use Rattle.machine.specs.declared.sequencer.Sequencer.{Sequencer}
 use Rattle.machine.specs.Memory.{Memory, shape, sound, Shaped}
-use Rattle.machine.specs.Answers.{refusalNumber, Value, blank, said, Outcome, outcome, answered}
+use Rattle.machine.specs.Answers.{refusalNumber, Value, blank, said, outcome, answered}
 use Rattle.machine.specs.Graphics.{memoryMap}
 use Rattle.machine.specs.Address.{inWindow, offset}
-use Rattle.machine.specs.Deeds.{Plan, perform, memoryAfter, valueOf, laid, any, remade, stored}
+use Rattle.machine.specs.Deeds.{Plan, perform, memoryAfter, valueOf, laid, remade, stored}
 use Rattle.machine.specs.Calls.{refuse, offsetNumber, planeNumber, placeNumber, shownNumber, accessNumber, fitsBoth}
 
 -- ---- an answer by its number
+
+pub answered-number : {S : Type 0} (n : ℕ) (v : Value) (new old : S) → n ≡ answered n v new old .answer .number
+answered-number zero v new old = refl
+answered-number (suc n) v new old = refl
 
 pub answered-done : {S : Type 0} (n : ℕ) (v w : Value) (new new′ old : S) → 0 ≡ n → w ≡ v → new′ ≡ new → outcome (said 0 w) new′ ≡ answered n v new old
 answered-done n v w new new′ old e f g = rw (← e, f, g)

@@ -9,3 +9,5 @@ pub mod Counters
 pub mod Pictures
 pub mod Once
 pub mod Injective
+pub mod Example
+pub mod DataPath

@@ -1,14 +1,12 @@
 -- The corollary of `isolation`: whatever is handed out, less bit k of each pixel, agrees. With k as 3, a label read without plane 3 holds no price.
-use Prim.Native.Nat.{ℕ, suc, _+_, _*_, _/_, _%_, _^_, _<_}
+use Prim.Native.Nat.{ℕ, suc, _+_, _*_, _/_, _%_, _^_}
 use native.Mathlib.Nat.{mod-lt}
 use native.Mathlib.Omega.{arith}
-use mathlib.Core.Logic.{_≢_}
 use mathlib.Core.Path.{_≡_, refl, sym, ap, ap₂, _∙_}
 use mathlib.Core.List.{List, [], _∷_, map}
 use lib.Pow.{pow-pos}
-use Rattle.bits.specs.Bit.{bit}
 use Rattle.bits.proofs.Laws.{bit-shr, bit-mod, bits-ext, all-bits}
-use Rattle.machine.specs.Answers.{Value, one, two, pixel, part, Said, said}
+use Rattle.machine.specs.Answers.{Value, pixel, part, Said, said}
 use Rattle.machine.specs.Step.{State, Call, step, run}
 use Rattle.machine.specs.Isolation.{Agree, Both, none, more, Alike, AlikeValue, same, pixels, parts, AlikeSaid, Obeys, Along, Throughout, less, lessSaid}
 use Rattle.machine.proofs.Isolation.{isolation}

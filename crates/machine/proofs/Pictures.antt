@@ -3,7 +3,7 @@ use Prim.Native.Nat.{ℕ, zero, suc, _+_, _*_, _-_, _/_, _%_, _<_, _≤_}
 use native.Mathlib.Decide.{ℕ-discrete, decLt}
 use native.Mathlib.Omega.{arith}
 use mathlib.Core.Logic.{_≢_}
-use mathlib.Core.Path.{_≡_, refl, sym, ap, _∙_, subst}
+use mathlib.Core.Path.{_≡_, refl, sym, ap, _∙_}
 use mathlib.Core.Bool.{Bool, true, false}
 use mathlib.Core.List.{List, [], _∷_}
 use lib.ListN.{length, getD, set}
@@ -12,12 +12,12 @@ use Rattle.bits.specs.Bit.{bit, pick}
 use Rattle.bits.proofs.Laws.{of-ext}
 use Rattle.machine.specs.Memory.{Memory, plane, shape}
 use Rattle.machine.specs.Answers.{Value, answered}
-use Rattle.machine.specs.Deeds.{Deed, rest, load, store, remake, byte, pixelOf, eight, remade, storedByte, laid, any, stored, memoryAfter, valueOf, perform}
+use Rattle.machine.specs.Deeds.{Deed, rest, load, store, remake, byte, pixelOf, eight, remade, storedByte, laid, any, stored, memoryAfter, perform}
 use Rattle.machine.specs.Calls.{vramPlan, directPlan, cpuPlan}
-use Rattle.machine.specs.Step.{vramStep, directStep, cpuStep, Device, device, cpuAfter, State, Call, vram, sequencer, direct, graphics, cpu, step, run}
+use Rattle.machine.specs.Step.{vramStep, directStep, cpuStep, Device, device, State, Call, vram, sequencer, direct, graphics, cpu, step, run}
 use Rattle.machine.specs.Isolation.{accepted}
 use Rattle.machine.specs.Claims.{Matches, MovesAt, deedOf}
-use Rattle.machine.proofs.Refusals.{answered-number}
+use Rattle.machine.proofs.Laws.{answered-number}
 
 -- ---- entries laid into a list from a place on
 

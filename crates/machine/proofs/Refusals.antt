@@ -1,13 +1,12 @@
 -- Refusals: each is given exactly when its condition holds and no earlier one does; it leaves everything as handed in, and carries value 0.
-use Prim.Native.Nat.{ℕ, zero, suc, _*_, _<_, _≤_}
+use Prim.Native.Nat.{ℕ, zero, suc, _<_, _≤_}
 use native.Mathlib.Omega.{arith}
-use mathlib.Core.Logic.{_≢_, _⊎_, inl, inr, _↔_}
+use mathlib.Core.Logic.{_≢_, _↔_}
 use mathlib.Core.Path.{_≡_, refl, sym, ap, _∙_, subst}
 use mathlib.Core.Bool.{Bool, true, false, _&&_}
 use mathlib.Core.List.{List, [], _∷_}
 use lib.Dec.{eqb, ltb, leb}
-use lib.ListN.{length}
-use borrow.Author.Tests.{ltb-true, ltb-false, leb-true, leb-false, eqb-true, eqb-false, lt-ltb, le-leb, eq-eqb}
+use borrow.Author.Tests.{ltb-true, leb-true, eqb-true, lt-ltb, le-leb, eq-eqb}
 use Rattle.machine.specs.declared.graphics.MemoryMap.{MemoryMap}
 use Rattle.machine.specs.declared.graphics.MemoryMap.the-variants.{«A0000_128k», «A0000_64K», «B0000_32K», «B8000_32K»}
 use Rattle.machine.specs.declared.graphics.ShiftMode.{ShiftMode}
@@ -21,15 +20,15 @@ use Rattle.machine.specs.Graphics.{fitsGc, shiftMode, memoryMap}
 use Rattle.machine.specs.Sequencer.{fitsSeq}
 use Rattle.machine.specs.Address.{inWindow, offset}
 use Rattle.machine.specs.Deeds.{perform}
-use Rattle.machine.specs.Calls.{refuse, fitsBoth, shows, offsetNumber, planeNumber, placeNumber, shownNumber, accessNumber, showNumber}
+use Rattle.machine.specs.Calls.{refuse, shows, offsetNumber, planeNumber, placeNumber, shownNumber, accessNumber, showNumber}
 use Rattle.machine.specs.Calls.{VramCall, readU8, peekU8, readGlyph, readLinear, serializeLinear, writeU8, planeSet, planeAnd, planeOr, deplane, vramPlan}
 use Rattle.machine.specs.Calls.{SequencerCall, seqReset, seqClock, seqSetClockChangePending, seqPollClockChange, seqReadAddress, seqReadData, seqWriteAddress, seqWriteData, seqNumberOf}
 use Rattle.machine.specs.Calls.{DirectCall, seqCpuReadU8, seqPeekU8, seqGcReadU8, seqReadLinear, seqSerializeLinear, seqPlaneSet, seqPlaneAnd, seqPlaneOr, directPlan}
 use Rattle.machine.specs.Calls.{GraphicsCall, gcReset, gcChain, gcChain4, gcMemoryMap, gcOddEven, gcShiftMode, gcReadAddress, gcReadData, gcWriteAddress, gcWriteData, gcMapAddress, gcNumberOf}
 use Rattle.machine.specs.Calls.{CpuCall, cpuRead, cpuPeek, cpuWrite, serialize, cpuPlan}
-use Rattle.machine.specs.Step.{vramStep, sequencerStep, directStep, graphicsStep, Device, device, cpuStep, State, state, Call, vram, sequencer, direct, graphics, cpu, lifted, withMemory, withSeq, withGc, withDevice, step}
-use Rattle.machine.specs.Claims.{Check, check, RightGc, RightSeq, InWindow, forGc, forSeq, forBoth, forMemory, forShift, forPlane, forWindow, forOffset, forShown, forPlace, vramChecks, sequencerChecks, directChecks, graphicsChecks, cpuChecks, checks, Given, done, here, later, order, inOrder, Stays}
-use Rattle.machine.proofs.Laws.{both, sound-shaped}
+use Rattle.machine.specs.Step.{vramStep, sequencerStep, directStep, graphicsStep, device, cpuStep, State, Call, vram, sequencer, direct, graphics, cpu, lifted, withMemory, withSeq, withGc, withDevice, step}
+use Rattle.machine.specs.Claims.{Check, check, RightGc, RightSeq, InWindow, forBoth, forMemory, forPlane, forWindow, forOffset, forShown, forPlace, vramChecks, sequencerChecks, directChecks, graphicsChecks, cpuChecks, checks, Given, done, here, later, order, inOrder, Stays}
+use Rattle.machine.proofs.Laws.{answered-number}
 
 -- ---- a test and what it tests
 
@@ -199,10 +198,6 @@ graphics-given r (gcWriteData x) = then 6 (gc-told r) (done refl)
 graphics-given r (gcMapAddress x page) = then 6 (gc-told r) (then 2 (window-told (memoryMap r) x) (done refl))
 
 -- ---- the theorems
-
-pub answered-number : {S : Type 0} (n : ℕ) (v : Value) (new old : S) → n ≡ answered n v new old .answer .number
-answered-number zero v new old = refl
-answered-number (suc n) v new old = refl
 
 number-given : (s : State) (c : Call) → Given (checks s c) (step s c .answer .number)
 unfolding step checks vramStep sequencerStep directStep graphicsStep cpuStep perform

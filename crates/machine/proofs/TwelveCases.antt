@@ -1,7 +1,7 @@
 -- Document 01's twelve cases: one list of what the definitions give, one list of what the document says, one statement. By computation.
-use Prim.Native.Nat.{ℕ, _+_, _*_}
+use Prim.Native.Nat.{ℕ}
 use mathlib.Core.Path.{_≡_, refl}
-use mathlib.Core.Bool.{Bool, true, false}
+use mathlib.Core.Bool.{true, false}
 use mathlib.Core.List.{List, [], _∷_, _++_, map}
 use lib.ListN.{replicate, take}
 use Rattle.machine.specs.Memory.{Memory, mem}

@@ -1,6 +1,6 @@
 -- Address to offset: the windows, the four memory maps, chain odd/even and the page bit.
 use Prim.Native.Nat.{ℕ, _+_, _-_, _*_, _/_, _%_}
-use mathlib.Core.Bool.{Bool, true, false, _&&_}
+use mathlib.Core.Bool.{Bool, false, _&&_}
 use lib.Dec.{ltb, leb}
 use Rattle.bits.specs.Bit.{bit, isOne, bitOf, pick}
 use Rattle.machine.specs.declared.graphics.MemoryMap.{MemoryMap}

@@ -1,6 +1,6 @@
 -- The data path, one bit at a time: what a write puts into bit i of plane p, and what a read takes out.
 use Prim.Native.Nat.{ℕ, _+_, _*_, _/_, _%_, min, max}
-use mathlib.Core.Bool.{Bool, true, false, _||_}
+use mathlib.Core.Bool.{Bool, true, _||_}
 use lib.Dec.{eqb}
 use lib.Bits.{differ}
 use Rattle.bits.specs.Bit.{bit, isOne, bitOf, pick}

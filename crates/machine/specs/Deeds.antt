@@ -1,6 +1,6 @@
 -- What a call may ask of latches and memory, and what they make of it: the only definitions that see a latch, a plane's byte or a pixel.
 use Prim.Native.Nat.{ℕ, _*_, _-_}
-use mathlib.Core.Bool.{Bool, true, false, _||_}
+use mathlib.Core.Bool.{Bool, true, _||_}
 use mathlib.Core.List.{List, [], _∷_}
 use lib.Dec.{eqb}
 use lib.ListN.{getD, set, take, drop}
@@ -81,9 +81,13 @@ any w = w 0 || (w 1 || (w 2 || w 3))
 unfoldable pub stored : ℕ → (ℕ → Bool) → (ℕ → ℕ) → Memory → Memory
 stored o w b m = pick (any w) (remade o (laid o w b m)) m
 
+-- whether plane p lets bit i pass: its Don't Care bit is 0, or latch bit i equals its Color Compare bit
+unfoldable pub agrees : ℕ → ℕ → List ℕ → ℕ → ℕ → Bool
+agrees care colour l i p = pick (isOne (bit p care)) (eqb (bit i (latch l p)) (bit p colour)) true
+
 -- bit i is 1 exactly when, for each plane whose Don't Care bit is 1, latch bit i equals its Color Compare bit
 unfoldable pub compared : ℕ → ℕ → List ℕ → ℕ
-compared care colour l = byteOf (λ i. bitOf (every 4 (λ p. pick (isOne (bit p care)) (eqb (bit i (latch l p)) (bit p colour)) true)))
+compared care colour l = byteOf (λ i. bitOf (every 4 (agrees care colour l i)))
 
 -- ---- a deed done, a reply given
 

@@ -1,5 +1,4 @@
 -- What each call does to what it is handed, layer by layer; `step`, the same on the whole state; `run`, call after call.
-use Prim.Native.Nat.{ℕ}
 use mathlib.Core.List.{List, [], _∷_}
 use Rattle.machine.specs.declared.graphics.GraphicsController.{GraphicsController}
 use Rattle.machine.specs.declared.sequencer.Sequencer.{Sequencer}

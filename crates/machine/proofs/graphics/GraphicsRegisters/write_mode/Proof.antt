@@ -1,5 +1,5 @@
 -- `write_mode` takes out Mode's bits 0-1.
-use mathlib.Core.Path.{refl, _∙_}
+use mathlib.Core.Path.{_∙_}
 use native.Mathlib.Omega.{arith}
 use Rattle.machine.specs.Graphics.{writeMode}
 use Rattle.machine.proofs.Fields.{field-masked, last-of-4}
