@@ -1,7 +1,12 @@
 // The sequencer: its registers, its plane masks, and its direct calls on the lent memory. The record stands in `machine`.
+mod direct;
 pub mod inner;
 mod registers;
 
+pub use direct::gc_read_u8;
+pub use direct::plane_and;
+pub use direct::plane_or;
+pub use direct::plane_set;
 pub use registers::clock;
 pub use registers::poll_clock_change;
 pub use registers::read_address;

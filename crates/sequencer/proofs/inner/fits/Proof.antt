@@ -6,13 +6,11 @@ use Rattle.sequencer.proofs.inner.fits.Tie as tie
 
 returns : tie.Need-returns
 unfolding fitsSeq
-returns c =
-    simp (lt-leb _ _ (c .if1 .taken))
+returns c = simp (lt-leb _ _ (c .if1 .taken))
 
 returns-2 : tie.Need-returns-2
 unfolding fitsSeq
-returns-2 c =
-    simp (le-leb _ _ (c .before .before .if1 .left), lt-leb _ _ (c .if2 .taken))
+returns-2 c = simp (le-leb _ _ (c .before .before .if1 .left), lt-leb _ _ (c .if2 .taken))
 
 returns-3 : tie.Need-returns-3
 unfolding fitsSeq

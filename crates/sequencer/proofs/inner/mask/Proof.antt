@@ -11,16 +11,13 @@ chain-four-requires : tie.Need-chain-four-requires
 chain-four-requires c κs = search needs
 
 cast-result : tie.Need-cast-result
-cast-result c =
-    omega (arith, and-mask (c .before .before .args .offset) 2)
+cast-result c = omega (arith, and-mask (c .before .before .args .offset) 2)
 
 shl-result : tie.Need-shl-result
-shl-result c =
-    omega (arith, and-mask (c .before .before .args .offset) 2)
+shl-result c = omega (arith, and-mask (c .before .before .args .offset) 2)
 
 returns : tie.Need-returns
-returns c =
-    mask-chained _ _ _ (sym (c .before .chain-four .ensures) ∙ c .if1 .taken)
+returns c = mask-chained _ _ _ (sym (c .before .chain-four .ensures) ∙ c .if1 .taken)
 
 odd-even-requires : tie.Need-odd-even-requires
 odd-even-requires c κs = search needs
@@ -35,8 +32,7 @@ cast-result-2 : tie.Need-cast-result-2
 cast-result-2 c = search needs
 
 shl-result-2 : tie.Need-shl-result-2
-shl-result-2 c =
-    a0-lt (c .before .before .before .before .before .args .a0)
+shl-result-2 c = a0-lt (c .before .before .before .before .before .args .a0)
 
 returns-2 : tie.Need-returns-2
 returns-2 c =

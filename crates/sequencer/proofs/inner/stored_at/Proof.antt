@@ -11,13 +11,11 @@ chain-four-requires c κs = search needs
 
 returns : tie.Need-returns
 unfolding storedAt
-returns c =
-    rw (sym (c .before .chain-four .ensures) ∙ c .if1 .taken) (cleared _ (search needs))
+returns c = rw (sym (c .before .chain-four .ensures) ∙ c .if1 .taken) (cleared _ (search needs))
 
 returns-2 : tie.Need-returns-2
 unfolding storedAt
-returns-2 c =
-    rw (sym (c .before .chain-four .ensures) ∙ c .if1 .left)
+returns-2 c = rw (sym (c .before .chain-four .ensures) ∙ c .if1 .left)
 
 pub stored-at-spec : {M : Type 1} → statement M
 stored-at-spec = tie.close (tie.spec chain-four-requires returns returns-2)

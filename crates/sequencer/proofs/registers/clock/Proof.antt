@@ -12,13 +12,11 @@ fits-requires c κs = search needs
 
 returns : tie.Need-returns
 unfolding sequencerStep seqNumberOf seqValue
-returns c =
-    simp (sym (c .before .fits2 .ensures) ∙ not-true _ (c .if1 .taken))
+returns c = simp (sym (c .before .fits2 .ensures) ∙ not-true _ (c .if1 .taken))
 
 returns-2 : tie.Need-returns-2
 unfolding sequencerStep seqNumberOf seqValue seqNext
-returns-2 c =
-    simp (sym (c .before .fits2 .ensures) ∙ not-false _ (c .if1 .left))
+returns-2 c = simp (sym (c .before .fits2 .ensures) ∙ not-false _ (c .if1 .left))
 
 pub clock-spec : {M : Type 1} → statement M
 clock-spec = tie.close (tie.spec fits-requires returns returns-2)

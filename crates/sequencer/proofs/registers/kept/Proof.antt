@@ -24,33 +24,27 @@ enum-told-6 c = search needs
 
 returns : tie.Need-returns
 unfolding seqDataOf
-returns c =
-    rw (c .enum-told .given .1)
+returns c = rw (c .enum-told .given .1)
 
 returns-2 : tie.Need-returns-2
 unfolding seqDataOf
-returns-2 c =
-    rw (c .enum-told2 .given .1)
+returns-2 c = rw (c .enum-told2 .given .1)
 
 returns-3 : tie.Need-returns-3
 unfolding seqDataOf
-returns-3 c =
-    rw (c .enum-told3 .given .1)
+returns-3 c = rw (c .enum-told3 .given .1)
 
 returns-4 : tie.Need-returns-4
 unfolding seqDataOf
-returns-4 c =
-    rw (c .enum-told4 .given .1)
+returns-4 c = rw (c .enum-told4 .given .1)
 
 returns-5 : tie.Need-returns-5
 unfolding seqDataOf
-returns-5 c =
-    rw (c .enum-told5 .given .1)
+returns-5 c = rw (c .enum-told5 .given .1)
 
 returns-6 : tie.Need-returns-6
 unfolding seqDataOf
-returns-6 c =
-    rw (c .enum-told6 .given .1)
+returns-6 c = rw (c .enum-told6 .given .1)
 
 pub kept-spec : {M : Type 1} → statement M
 kept-spec =

@@ -10,8 +10,7 @@ new-requires c κs = search needs
 
 returns : tie.Need-returns
 unfolding sequencerStep seqNumberOf seqValue seqNext
-returns c =
-    rw (c .new .ensures)
+returns c = rw (c .new .ensures)
 
 pub reset-spec : {M : Type 1} → statement M
 reset-spec = tie.close (tie.spec new-requires returns)

@@ -13,16 +13,14 @@ fits-requires c κs = search needs
 
 returns : tie.Need-returns
 unfolding sequencerStep seqNumberOf seqValue
-returns c =
-    simp (sym (c .before .fits2 .ensures) ∙ not-true _ (c .if1 .taken))
+returns c = simp (sym (c .before .fits2 .ensures) ∙ not-true _ (c .if1 .taken))
 
 selected-requires : tie.Need-selected-requires
 selected-requires c κs = search needs
 
 returns-2 : tie.Need-returns-2
 unfolding sequencerStep seqNumberOf seqValue seqNext withSeqAddress
-returns-2 c =
-    simp (sym (c .before .before .fits2 .ensures) ∙ not-false _ (c .before .if1 .left), c .selected .ensures)
+returns-2 c = simp (sym (c .before .before .fits2 .ensures) ∙ not-false _ (c .before .if1 .left), c .selected .ensures)
 
 pub write-address-spec : {M : Type 1} → statement M
 write-address-spec = tie.close (tie.spec fits-requires returns selected-requires returns-2)
