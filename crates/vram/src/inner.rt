@@ -6,13 +6,31 @@ ghost use lib.Dec.{eqb};
 ghost use lib.ListN.{length, getD};
 ghost use Rattle.bits.specs.Bit.{bit, ofBits};
 ghost use Rattle.machine.specs.Memory.{lent, before, after, shape, sound, Shaped};
-ghost use Rattle.machine.specs.Answers.{doneSaid};
+ghost use Rattle.machine.specs.Answers.{doneSaid, refusalNumber};
 ghost use Rattle.machine.specs.Deeds.{byte as byteOfPlane, laid, remade};
 ghost use Rattle.machine.specs.Calls.{planeNumber, offsetNumber, placeNumber, shownNumber};
 use machine::DoneAnswer;
 use machine::PixelPlace;
 use machine::PlaneOffset;
 use machine::Refusal;
+
+// A refusal's number in the table of refusals.
+pub fn refusal_number(refusal: Refusal) -> u8
+    ensures { λ r. ⌜ r ≡ refusalNumber refusal ⌝ }
+{
+    match refusal {
+        Refusal::Memory => 1,
+        Refusal::Window => 2,
+        Refusal::Offset => 3,
+        Refusal::Plane => 4,
+        Refusal::Place => 5,
+        Refusal::State => 6,
+        Refusal::Damaged => 7,
+        Refusal::Range => 8,
+        Refusal::Shift => 9,
+        Refusal::Room => 10,
+    }
+}
 
 // Not refusal 1: the plane lengths agree, n is from 1 to 65,536, and the picture is 8n long.
 pub fn shaped(p0: &[u8], p1: &[u8], p2: &[u8], p3: &[u8], picture: &[u8]) -> bool
