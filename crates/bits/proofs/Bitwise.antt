@@ -3,12 +3,12 @@ use Prim.Native.Nat.{ℕ, zero, suc, _+_, _-_, _*_, _/_, _%_, _^_, _<_, min, max
 use native.Mathlib.Nat.{pow-suc, lt-of-le-of-lt, le-of-suc-le-suc, not-suc-le-zero, mod-eq-of-lt}
 use native.Mathlib.Numerals.{add-one}
 use native.Mathlib.Omega.{arith}
-use mathlib.Core.Path.{_≡_, sym, ap, _∙_}
+use mathlib.Core.Path.{_≡_, refl, sym, ap, _∙_}
 use lib.Arith.{digits-mod}
-use lib.Pow.{shr-lt, shl-shr, pow-lt, pow-add}
-use lib.Bits.{bitAnd, bitOr, bitXor, differ, and-step, or-step, xor-step, and-shr, or-shr, xor-shr, and-le-r, or-lt, xor-lt, and-mask, and-high, shifted-even, shifted-half}
-use Rattle.bits.specs.Bit.{bit, byteOf}
-use Rattle.bits.proofs.Laws.{bit-zero, bit-suc, bit-shr, bit-of}
+use lib.Pow.{shr-lt, shl-shr, pow-lt, pow-pos, pow-add}
+use lib.Bits.{bitAnd, bitOr, bitXor, differ, and-step, or-step, xor-step, and-shr, or-shr, xor-shr, and-le-r, or-lt, xor-lt, and-mask, and-high, or-shifted-r, shifted-even, shifted-half}
+use Rattle.bits.specs.Bit.{bit, ofBits, byteOf}
+use Rattle.bits.proofs.Laws.{bit-lt, bit-zero, bit-suc, bit-shr, bit-of, of-lt, of-more}
 
 -- ---- the operations
 
@@ -86,3 +86,32 @@ shr-and-one x k = and-mask (x / 2 ^ k) 1
 pub and-one-shl : (x p : ℕ) → p < 8 → bitAnd x (1 * 2 ^ p % 256) ≡ bit p x * 2 ^ p
 unfolding bit
 and-one-shl x p h = ap (bitAnd x) (omega (arith, mod-eq-of-lt (pow-lt {i = p} {j = 8} h), pow-add 2 1 p)) ∙ and-high x 1 p
+
+-- the test `x & (1 << p) != 0`, passed and not
+module _ (x p : ℕ) (h : p < 8) where
+  pub bit-set : (bitAnd x (1 * 2 ^ p % 256) ≡ 0 → ⊥) → bit p x ≡ 1
+  bit-set n = go (bit p x) (bit-lt p x) (λ e. n (and-one-shl x p h ∙ e))
+    where
+      go : (b : ℕ) → b < 2 → (b * 2 ^ p ≡ 0 → ⊥) → b ≡ 1
+      go zero l n = absurd (n (omega arith))
+      go (suc b) l n = omega arith
+
+  pub bit-clear : bitAnd x (1 * 2 ^ p % 256) ≡ 0 → bit p x ≡ 0
+  bit-clear e = go (bit p x) (bit-lt p x) (sym (and-one-shl x p h) ∙ e)
+    where
+      go : (b : ℕ) → b < 2 → b * 2 ^ p ≡ 0 → b ≡ 0
+      go zero l e = refl
+      go (suc zero) l e = absurd (omega (arith, pow-pos p))
+      go (suc (suc b)) l e = absurd (omega arith)
+
+-- ---- a byte made bit by bit: `x |= 1 << i`, or not
+
+module _ (f : ℕ → ℕ) (h : (k : ℕ) → f k < 2) (i : ℕ) (l : i < 8) where
+  pub more-set : f i ≡ 1 → bitOr (ofBits i f) (1 * 2 ^ i % 256) ≡ ofBits (i + 1) f
+  more-set e =
+      ap (bitOr (ofBits i f)) (omega (arith, mod-eq-of-lt (pow-lt {i = i} {j = 8} l)))
+      ∙ or-shifted-r 1 i (ofBits i f) (of-lt i f h)
+      ∙ omega (arith, of-more i f, ap (λ (b : ℕ). b * 2 ^ i) e)
+
+  pub more-clear : f i ≡ 0 → ofBits i f ≡ ofBits (i + 1) f
+  more-clear e = omega (arith, of-more i f, ap (λ (b : ℕ). b * 2 ^ i) e)

@@ -26,6 +26,13 @@ agree1 n f g t a h = eqb→eq (f a) (g a) (every-at n (λ a. eqb (f a) (g a)) t 
 pub agree2 : (n m : ℕ) (f g : ℕ → ℕ → ℕ) → T (every n (λ a. every m (λ b. eqb (f a b) (g a b)))) → (a b : ℕ) → a < n → b < m → f a b ≡ g a b
 agree2 n m f g t a b ha hb = agree1 m (f a) (g a) (every-at n (λ a. every m (λ b. eqb (f a b) (g a b))) t a ha) b hb
 
+pub agree3 : (n m k : ℕ) (f g : ℕ → ℕ → ℕ → ℕ) → T (every n (λ a. every m (λ b. every k (λ c. eqb (f a b c) (g a b c))))) → (a b c : ℕ) → a < n → b < m → c < k → f a b c ≡ g a b c
+agree3 n m k f g t a b c ha = agree2 m k (f a) (g a) (every-at n (λ a. every m (λ b. every k (λ c. eqb (f a b c) (g a b c)))) t a ha) b c
+
 -- three bits
 pub same3 : (f g : ℕ → ℕ → ℕ → ℕ) → T (every 2 (λ a. every 2 (λ b. every 2 (λ c. eqb (f a b c) (g a b c))))) → (a b c : ℕ) → a < 2 → b < 2 → c < 2 → f a b c ≡ g a b c
-same3 f g t a b c ha = agree2 2 2 (f a) (g a) (every-at 2 (λ a. every 2 (λ b. every 2 (λ c. eqb (f a b c) (g a b c)))) t a ha) b c
+same3 = agree3 2 2 2
+
+-- four bits
+pub same4 : (f g : ℕ → ℕ → ℕ → ℕ → ℕ) → T (every 2 (λ a. every 2 (λ b. every 2 (λ c. every 2 (λ d. eqb (f a b c d) (g a b c d)))))) → (a b c d : ℕ) → a < 2 → b < 2 → c < 2 → d < 2 → f a b c d ≡ g a b c d
+same4 f g t a b c d ha = same3 (f a) (g a) (every-at 2 (λ a. every 2 (λ b. every 2 (λ c. every 2 (λ d. eqb (f a b c d) (g a b c d))))) t a ha) b c d

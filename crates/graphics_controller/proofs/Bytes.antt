@@ -1,0 +1,121 @@
+-- The data path on whole bytes is the machine's rule bit by bit: rotate, logic step, and a byte made of one plane's bits.
+use Prim.Native.Nat.{ℕ, zero, suc, _+_, _-_, _*_, _/_, _%_, _^_, _≤_, _<_, min, max}
+use mathlib.Core.Path.{_≡_, refl, sym, ap, ap₂, _∙_}
+use mathlib.Core.Bool.{Bool, true, false}
+use mathlib.Core.List.{List, [], _∷_}
+use native.Mathlib.Omega.{arith}
+use lib.ListN.{length, getD}
+use lib.Bits.{bitAnd, bitOr, bitXor, differ}
+use mir.Syntax.{w8}
+use mir.Val.{Val}
+use denote.Plain.{UInt}
+use denote.Array.{Array, each}
+use denote.Shadow.{shadow}
+use denote.Laws.{Is}
+use Rattle.bits.specs.Bit.{bit, ofBits, byteOf, isOne, pick}
+use Rattle.bits.proofs.Laws.{bit-lt, bit-of, of-bit, of-ext, is-of}
+use Rattle.bits.proofs.Bitwise.{bitwise, bytes, bit-spread}
+use Rattle.bits.proofs.Decide.{agree2, same3}
+use Rattle.machine.specs.declared.graphics.LogicFunction.{LogicFunction}
+use Rattle.machine.specs.declared.graphics.LogicFunction.the-variants.{Unmodified, And, Or, Xor}
+use Rattle.machine.specs.declared.graphics.GraphicsRegisters.{GraphicsRegisters}
+use Rattle.machine.specs.declared.graphics.WriteMode.the-variants.{Mode0, Mode1, Mode2, Invalid}
+use Rattle.machine.specs.Graphics.{rotateCount}
+use Rattle.machine.specs.DataPath.{rotated, dataBit, combined, masked, writtenBit}
+use Rattle.machine.specs.Deeds.{latch}
+use Rattle.graphics_controller.specs.Writes.{written, four}
+
+-- two shifts and an or turn eight bits: all 2,048 cases are tried
+pub turned : (x n : ℕ) → x < 256 → n < 8 → bitOr (x / 2 ^ n) (x * 2 ^ ((8 - n) % 8) % 256) ≡ byteOf (rotated n x)
+unfolding bit ofBits
+turned = agree2 256 8 (λ x n. bitOr (x / 2 ^ n) (x * 2 ^ ((8 - n) % 8) % 256)) (λ x n. byteOf (rotated n x)) tt
+
+-- ---- the logic step
+
+-- the code's expression for each function
+abbrev pub whole : LogicFunction → ℕ → ℕ → ℕ → ℕ
+whole Unmodified m d l = bitOr (bitAnd d m) (bitAnd (255 - m) l)
+whole And m d l = bitAnd (bitOr d (255 - m)) l
+whole Or m d l = bitOr (bitAnd d m) l
+whole Xor m d l = bitXor (bitAnd d m) l
+
+-- the same on bits
+abbrev single : LogicFunction → ℕ → ℕ → ℕ → ℕ
+single Unmodified m d l = max (min d m) (min (1 - m) l)
+single And m d l = min (max d (1 - m)) l
+single Or m d l = max (min d m) l
+single Xor m d l = differ (min d m) l
+
+-- a mask bit 1 takes the function of data and latch, a 0 the latch
+abbrev pub stepped : LogicFunction → ℕ → ℕ → ℕ → ℕ
+stepped f m d l = pick (isOne m) (combined f d l) l
+
+-- what the code does to bits is the rule: eight cases a function
+right : (f : LogicFunction) (m d l : ℕ) → m < 2 → d < 2 → l < 2 → single f m d l ≡ stepped f m d l
+unfolding combined
+right Unmodified = same3 (single Unmodified) (stepped Unmodified) tt
+right And = same3 (single And) (stepped And) tt
+right Or = same3 (single Or) (stepped Or) tt
+right Xor = same3 (single Xor) (stepped Xor) tt
+
+module _ (m d l : ℕ) (hm : m < 256) (hd : d < 256) (hl : l < 256) where
+  apart : (f : LogicFunction) (i : ℕ) → i < 8 → bit i (whole f m d l) ≡ single f (bit i m) (bit i d) (bit i l)
+  apart Unmodified i h = simp bitwise
+  apart And i h = simp bitwise
+  apart Or i h = simp bitwise
+  apart Xor i h = simp bitwise
+
+  small : (f : LogicFunction) → whole f m d l < 2 ^ 8
+  small Unmodified = search bytes
+  small And = search bytes
+  small Or = search bytes
+  small Xor = search bytes
+
+  pub whole-is : (f : LogicFunction) → whole f m d l ≡ byteOf (λ i. stepped f (bit i m) (bit i d) (bit i l))
+  whole-is f = is-of 8 (small f) (λ i h. apart f i h ∙ right f (bit i m) (bit i d) (bit i l) (bit-lt i m) (bit-lt i d) (bit-lt i l))
+
+-- the logic step of a data byte that is told bit by bit
+pub step-of : (f : LogicFunction) (m d l : ℕ) (e : ℕ → ℕ) → ((i : ℕ) → i < 8 → bit i d ≡ e i)
+    → byteOf (λ i. stepped f (bit i m) (bit i d) (bit i l)) ≡ byteOf (λ i. stepped f (bit i m) (e i) (bit i l))
+step-of f m d l e h = of-ext 8 (λ i k. ap (λ (b : ℕ). stepped f (bit i m) b (bit i l)) (h i k))
+
+-- bit i of the data: a plane whose Enable bit is set has its Set/Reset bit, spread
+pub data-bit : (b : Bool) (s x : ℕ) → s < 2 → (i : ℕ) → i < 8 → bit i (pick b (byteOf (λ k. s)) x) ≡ pick b s (bit i x)
+data-bit true s x l i h = bit-spread i s h l
+data-bit false s x l i h = refl
+
+-- ---- the byte of one plane
+
+module _ (r : GraphicsRegisters) (x : ℕ) (l : List ℕ) where
+  -- mode 0, of the byte as it was rotated once
+  pub mode-0-at : (p t : ℕ) → t ≡ byteOf (rotated (rotateCount r) x)
+      → byteOf (λ i. masked r i (pick (isOne (bit p (r .«enable_set_reset»))) (bit p (r .«set_reset»)) (bit i t)) (bit i (latch l p))) ≡ written Mode0 r x l p
+  unfolding written writtenBit dataBit
+  mode-0-at p t e = of-ext 8 (λ i h.
+      ap (λ (b : ℕ). masked r i (pick (isOne (bit p (r .«enable_set_reset»))) (bit p (r .«set_reset»)) b) (bit i (latch l p)))
+      (ap (bit i) e ∙ bit-of 8 (rotated (rotateCount r) x) (λ k. bit-lt ((k + rotateCount r) % 8) x) i h))
+
+pub alike : {a b c d a′ b′ c′ d′ : ℕ} → a ≡ a′ → b ≡ b′ → c ≡ c′ → d ≡ d′ → (a ∷ b ∷ c ∷ d ∷ []) ≡ (a′ ∷ b′ ∷ c′ ∷ d′ ∷ [])
+alike e f g h = cc
+
+-- ---- the latches as they are
+
+-- four bytes are the four numbers of their bits
+four-bytes : (l : List ℕ) → length l ≡ 4 → ((p : ℕ) → latch l p < 256) → l ≡ four (λ p. byteOf (λ i. bit i (latch l p)))
+four-bytes (a ∷ b ∷ c ∷ d ∷ []) e h = alike (sym (of-bit 8 a (h 0))) (sym (of-bit 8 b (h 1))) (sym (of-bit 8 c (h 2))) (sym (of-bit 8 d (h 3)))
+four-bytes [] e h = absurd (omega arith)
+four-bytes (a ∷ []) e h = absurd (omega arith)
+four-bytes (a ∷ b ∷ []) e h = absurd (omega arith)
+four-bytes (a ∷ b ∷ c ∷ []) e h = absurd (omega arith)
+four-bytes (a ∷ b ∷ c ∷ d ∷ f ∷ l) e h = absurd (omega arith)
+
+-- an array's elements are bytes
+owned-bytes : (l : List ℕ) (us : List Val) → shadow (each ℕ (UInt w8 .own) l us) → (p : ℕ) → latch l p < 256
+owned-bytes [] [] s p = omega arith
+owned-bytes [] (u ∷ us) s p = absurd s
+owned-bytes (x ∷ l) [] s p = absurd s
+owned-bytes (x ∷ l) (u ∷ us) s zero = s .0 .1
+owned-bytes (x ∷ l) (u ∷ us) s (suc p) = owned-bytes l us (s .1) p
+
+pub kept-bytes : (l : List ℕ) (vs : List Val) → Is (Array (UInt w8) 4) l vs → l ≡ four (λ p. byteOf (λ i. bit i (latch l p)))
+kept-bytes l vs g = four-bytes l (g .1 .0 .1) (owned-bytes l (g .0) (g .1 .1))

@@ -1,0 +1,82 @@
+-- `plane_store` judges and then stores: the machine's direct store of each kind, by `store-refused` and `store-done`.
+use borrow.Author.Needs.{needs}
+use Rattle.machine.specs.Memory.{mem}
+use Rattle.sequencer.proofs.Laws.{as-told, accepted, store-refused, store-done}
+use Rattle.sequencer.proofs.direct.plane_store.Statement.{statement}
+use Rattle.sequencer.proofs.direct.plane_store.Tie as tie
+
+judge-plane-requires : tie.Need-judge-plane-requires
+judge-plane-requires c κs = search needs
+
+enum-known-x : tie.Need-enum-known-x
+enum-known-x c = search needs
+
+enum-told : tie.Need-enum-told
+enum-told c = search needs
+
+store-masked-requires : tie.Need-store-masked-requires
+store-masked-requires c κs =
+    let start = c .before .before .before .before .before .before .before .before .before .before .before .before .before .before .before .before .before .before in
+    let a = accepted (start .args .seq) (mem (start .args .p0 .now) (start .args .p1 .now) (start .args .p2 .now) (start .args .p3 .now) (start .args .picture .now)) (start .args .plane) (start .args .offset .0) (as-told (c .before .before .before .before .before .enum-told .given .1) (c .before .before .before .before .before .before .before .judge-plane .ensures)) in
+    let h = a .1 in
+    (h .shaped, (h .offset, (h .plane, a .0)))
+
+same-length : tie.Need-same-length
+same-length c = search needs
+
+same-length-2 : tie.Need-same-length-2
+same-length-2 c = search needs
+
+same-length-3 : tie.Need-same-length-3
+same-length-3 c = search needs
+
+same-length-4 : tie.Need-same-length-4
+same-length-4 c = search needs
+
+same-length-5 : tie.Need-same-length-5
+same-length-5 c = search needs
+
+returns : tie.Need-returns
+returns c =
+    let start = c .before .before .before .before .before .before .before .before .before .before .before .before .before .before in
+    store-refused (start .args .kind) _ (mem (start .args .p0 .now) (start .args .p1 .now) (start .args .p2 .now) (start .args .p3 .now) (start .args .picture .now)) (mem (start .args .p0 .now) (start .args .p1 .now) (start .args .p2 .now) (start .args .p3 .now) (start .args .picture .now)) _ _ _ _ (c .before .x .given .0 .0) (as-told (c .before .x .given .1) (c .before .before .before .judge-plane .ensures))
+
+same-length-6 : tie.Need-same-length-6
+same-length-6 c = search needs
+
+same-length-7 : tie.Need-same-length-7
+same-length-7 c = search needs
+
+same-length-8 : tie.Need-same-length-8
+same-length-8 c = search needs
+
+same-length-9 : tie.Need-same-length-9
+same-length-9 c = search needs
+
+same-length-10 : tie.Need-same-length-10
+same-length-10 c = search needs
+
+returns-2 : tie.Need-returns-2
+returns-2 c =
+    store-done (c .before .before .before .before .before .before .before .before .before .before .before .before .before .before .before .before .before .before .before .before .before .before .before .before .before .before .before .before .before .args .kind) _ _ _ _ _ _ _ (as-told (c .before .before .before .before .before .before .before .before .before .before .before .before .before .before .before .before .enum-told .given .1) (c .before .before .before .before .before .before .before .before .before .before .before .before .before .before .before .before .before .before .judge-plane .ensures)) (c .before .before .before .before .before .before .before .before .before .before .store-masked .ensures)
+
+pub plane-store-spec : {M : Type 1} → statement M
+plane-store-spec =
+    tie.close
+    (tie.spec
+    judge-plane-requires
+    enum-known-x
+    enum-told
+    store-masked-requires
+    same-length
+    same-length-2
+    same-length-3
+    same-length-4
+    same-length-5
+    returns
+    same-length-6
+    same-length-7
+    same-length-8
+    same-length-9
+    same-length-10
+    returns-2)

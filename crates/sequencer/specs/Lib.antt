@@ -1,0 +1,2 @@
+pub mod Direct
+pub mod Mask

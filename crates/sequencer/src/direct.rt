@@ -1,0 +1,222 @@
+// The sequencer's own calls on memory. Its stores go through the plane mask; its reads take the offset as it stands, `gc_read_u8` excepted.
+ghost use mathlib.Core.Path.{_≡_};
+ghost use mathlib.Core.Bool.{true};
+ghost use mathlib.Core.List.{[]};
+ghost use Prim.Native.Nat.{ℕ, _<_, _≤_};
+ghost use lib.ListN.{length};
+ghost use Rattle.bits.specs.Bit.{bit, byteOf};
+ghost use Rattle.machine.specs.Memory.{lent, before, after, shape, Shaped};
+ghost use Rattle.machine.specs.Answers.{outcome, byteSaid, storeSaid, doneSaid};
+ghost use Rattle.machine.specs.Deeds.{memoryAfter};
+ghost use Rattle.machine.specs.Sequencer.{fitsSeq, inMask, storedAt};
+ghost use Rattle.machine.specs.Calls.{refuse, planeNumber, storeOne, seqGcReadU8, seqPlaneSet, seqPlaneAnd, seqPlaneOr};
+ghost use Rattle.machine.specs.Step.{directStep};
+ghost use Rattle.sequencer.specs.Direct.{storeBit, storeCall};
+use crate::inner;
+use machine::ByteAnswer;
+use machine::DoneAnswer;
+use machine::PlaneOffset;
+use machine::Refusal;
+use machine::Sequencer;
+use machine::StoreAnswer;
+
+// Refusals 6, 1, 4, 3: of a call that names a plane and an offset.
+fn judge_plane(
+    seq: Sequencer,
+    p0: &[u8],
+    p1: &[u8],
+    p2: &[u8],
+    p3: &[u8],
+    picture: &[u8],
+    plane: usize,
+    offset: PlaneOffset,
+) -> DoneAnswer
+    ensures { λ r. ⌜ doneSaid r .number ≡ refuse (fitsSeq seq) 6 (planeNumber (shape (before p0 p1 p2 p3 picture)) plane (offset .0)) ⌝ }
+{
+    if !inner::fits(seq) {
+        return DoneAnswer::Refused(Refusal::State);
+    }
+    vram::inner::judge_plane(p0, p1, p2, p3, picture, plane, offset)
+}
+
+// A plane's byte as the shows read it: sequential with chain-four set reads at the offset with its low two bits clear.
+pub fn gc_read_u8(
+    seq: Sequencer,
+    p0: &[u8],
+    p1: &[u8],
+    p2: &[u8],
+    p3: &[u8],
+    picture: &[u8],
+    plane: usize,
+    offset: PlaneOffset,
+    a0: bool,
+) -> ByteAnswer
+    ensures { λ r. ⌜ outcome (byteSaid r) (before p0 p1 p2 p3 picture) ≡ directStep seq (before p0 p1 p2 p3 picture) (seqGcReadU8 plane (offset .0) a0) ⌝ }
+{
+    match judge_plane(seq, p0, p1, p2, p3, picture, plane, offset) {
+        DoneAnswer::Refused(x) => ByteAnswer::Refused(x),
+        DoneAnswer::Done => {
+            let at = inner::gc_read_at(seq, offset.0);
+            ByteAnswer::Done(vram::inner::byte(p0, p1, p2, p3, picture, plane, at))
+        }
+    }
+}
+
+// What a direct store makes of the byte given and the plane's byte.
+enum PlaneStore {
+    Set,
+    And,
+    Or,
+}
+
+fn combined(kind: PlaneStore, byte: u8, old: u8) -> u8
+    ensures { λ r. ⌜ r ≡ byteOf (λ i. storeBit kind (bit i byte) (bit i old)) ⌝ }
+{
+    match kind {
+        PlaneStore::Set => byte,
+        PlaneStore::And => byte & old,
+        PlaneStore::Or => byte | old,
+    }
+}
+
+// A store, already judged: where the mask has the plane, its byte and its eight pixels; else nothing.
+fn store_masked(
+    seq: Sequencer,
+    p0: &mut [u8],
+    p1: &mut [u8],
+    p2: &mut [u8],
+    p3: &mut [u8],
+    picture: &mut [u8],
+    plane: usize,
+    offset: usize,
+    a0: bool,
+    kind: PlaneStore,
+    byte: u8,
+)
+    requires { ⌜ Shaped (lent p0 p1 p2 p3 picture) × ((offset < length (now p0)) × ((plane ≤ 3) × (fitsSeq seq ≡ true))) ⌝ }
+    ensures { λ _. ⌜ after p0 p1 p2 p3 picture ≡ memoryAfter (storeOne (storeBit kind) plane (storedAt seq offset) (inMask seq offset a0) byte) [] (before p0 p1 p2 p3 picture) ⌝ }
+{
+    let mask = inner::mask(seq, offset, a0);
+    if mask & (1 << plane) != 0 {
+        let at = inner::stored_at(seq, offset);
+        let old = vram::inner::byte(p0, p1, p2, p3, picture, plane, at);
+        let new = combined(kind, byte, old);
+        vram::inner::store(p0, p1, p2, p3, picture, plane, at, new);
+    }
+}
+
+// The three direct stores in one: judged, then stored through the mask.
+fn plane_store(
+    seq: Sequencer,
+    p0: &mut [u8],
+    p1: &mut [u8],
+    p2: &mut [u8],
+    p3: &mut [u8],
+    picture: &mut [u8],
+    plane: usize,
+    offset: PlaneOffset,
+    a0: bool,
+    kind: PlaneStore,
+    byte: u8,
+) -> StoreAnswer
+    ensures { λ r. ⌜ outcome (storeSaid r) (after p0 p1 p2 p3 picture) ≡ directStep seq (before p0 p1 p2 p3 picture) (storeCall kind plane (offset .0) a0 byte) ⌝ }
+{
+    match judge_plane(seq, p0, p1, p2, p3, picture, plane, offset) {
+        DoneAnswer::Refused(x) => StoreAnswer::Refused(x),
+        DoneAnswer::Done => {
+            let at = offset.0;
+            store_masked(seq, p0, p1, p2, p3, picture, plane, at, a0, kind, byte);
+            StoreAnswer::Done
+        }
+    }
+}
+
+// A byte put into a plane where the mask has it.
+pub fn plane_set(
+    seq: Sequencer,
+    p0: &mut [u8],
+    p1: &mut [u8],
+    p2: &mut [u8],
+    p3: &mut [u8],
+    picture: &mut [u8],
+    plane: usize,
+    offset: PlaneOffset,
+    a0: bool,
+    byte: u8,
+) -> StoreAnswer
+    ensures { λ r. ⌜ outcome (storeSaid r) (after p0 p1 p2 p3 picture) ≡ directStep seq (before p0 p1 p2 p3 picture) (seqPlaneSet plane (offset .0) a0 byte) ⌝ }
+{
+    plane_store(
+        seq,
+        p0,
+        p1,
+        p2,
+        p3,
+        picture,
+        plane,
+        offset,
+        a0,
+        PlaneStore::Set,
+        byte,
+    )
+}
+
+// The plane's byte `and` the one given, put in its place where the mask has the plane.
+pub fn plane_and(
+    seq: Sequencer,
+    p0: &mut [u8],
+    p1: &mut [u8],
+    p2: &mut [u8],
+    p3: &mut [u8],
+    picture: &mut [u8],
+    plane: usize,
+    offset: PlaneOffset,
+    a0: bool,
+    byte: u8,
+) -> StoreAnswer
+    ensures { λ r. ⌜ outcome (storeSaid r) (after p0 p1 p2 p3 picture) ≡ directStep seq (before p0 p1 p2 p3 picture) (seqPlaneAnd plane (offset .0) a0 byte) ⌝ }
+{
+    plane_store(
+        seq,
+        p0,
+        p1,
+        p2,
+        p3,
+        picture,
+        plane,
+        offset,
+        a0,
+        PlaneStore::And,
+        byte,
+    )
+}
+
+// The plane's byte `or` the one given, put in its place where the mask has the plane.
+pub fn plane_or(
+    seq: Sequencer,
+    p0: &mut [u8],
+    p1: &mut [u8],
+    p2: &mut [u8],
+    p3: &mut [u8],
+    picture: &mut [u8],
+    plane: usize,
+    offset: PlaneOffset,
+    a0: bool,
+    byte: u8,
+) -> StoreAnswer
+    ensures { λ r. ⌜ outcome (storeSaid r) (after p0 p1 p2 p3 picture) ≡ directStep seq (before p0 p1 p2 p3 picture) (seqPlaneOr plane (offset .0) a0 byte) ⌝ }
+{
+    plane_store(
+        seq,
+        p0,
+        p1,
+        p2,
+        p3,
+        picture,
+        plane,
+        offset,
+        a0,
+        PlaneStore::Or,
+        byte,
+    )
+}

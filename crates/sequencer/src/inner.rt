@@ -1,0 +1,68 @@
+// What the crates above may call, and a host may not: the test of refusal 6, the plane mask, and where chain-four leads.
+ghost use mathlib.Core.Path.{_≡_};
+ghost use mathlib.Core.Bool.{true};
+ghost use Rattle.machine.specs.Sequencer.{fitsSeq, storedAt, gcReadAt};
+ghost use Rattle.sequencer.specs.Mask.{maskOf};
+use machine::OddEvenMode;
+use machine::Sequencer;
+
+// Planes 0 and 2; shifted left by a0, planes 1 and 3.
+const ODD_EVEN_MASK: u8 = 0b0101;
+
+// Refusal 6's test: whether each register holds no more than its bits.
+pub fn fits(seq: Sequencer) -> bool
+    ensures { λ r. ⌜ r ≡ fitsSeq seq ⌝ }
+{
+    if seq.reset > 3 {
+        return false;
+    }
+    if seq.map_mask > 15 {
+        return false;
+    }
+    if seq.clocking_mode > 63 {
+        return false;
+    }
+    if seq.character_map_select > 63 {
+        return false;
+    }
+    if seq.memory_mode > 63 {
+        return false;
+    }
+    true
+}
+
+// The planes that a store at an offset reaches, plane p as bit p.
+pub fn mask(seq: Sequencer, offset: usize, a0: bool) -> u8
+    requires { ⌜ fitsSeq seq ≡ true ⌝ }
+    ensures { λ r. ⌜ r ≡ maskOf seq offset a0 ⌝ }
+{
+    if seq.chain_four() {
+        return 1 << (offset & 0x03);
+    }
+    let odd_even = seq.odd_even();
+    match odd_even {
+        OddEvenMode::Sequential => seq.map_mask,
+        OddEvenMode::OddEven => seq.map_mask & (ODD_EVEN_MASK << (a0 as u8)),
+    }
+}
+
+// Where a store at an offset goes: chain-four clears the low two bits.
+pub fn stored_at(seq: Sequencer, offset: usize) -> usize
+    ensures { λ r. ⌜ r ≡ storedAt seq offset ⌝ }
+{
+    if seq.chain_four() {
+        return offset & !0x03;
+    }
+    offset
+}
+
+// Where `gc_read_u8` reads: chain-four counts under sequential addressing alone.
+pub fn gc_read_at(seq: Sequencer, offset: usize) -> usize
+    ensures { λ r. ⌜ r ≡ gcReadAt seq offset ⌝ }
+{
+    let odd_even = seq.odd_even();
+    match odd_even {
+        OddEvenMode::OddEven => offset,
+        OddEvenMode::Sequential => stored_at(seq, offset),
+    }
+}

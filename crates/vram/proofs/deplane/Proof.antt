@@ -1,0 +1,52 @@
+-- `deplane` does as the machine: refused by `judge_offset`'s number, else the pixels that `remake` leaves.
+use mathlib.Core.Path.{refl}
+use borrow.Author.Needs.{needs}
+use Rattle.machine.proofs.Laws.{perform-done, perform-refused, refusal-some}
+use Rattle.machine.specs.Step.{vramStep}
+use Rattle.machine.specs.Calls.{vramPlan}
+use Rattle.machine.specs.Deeds.{memoryAfter, valueOf}
+use Rattle.vram.proofs.Laws.{as-told, offset-asked}
+use Rattle.vram.proofs.deplane.Statement.{statement}
+use Rattle.vram.proofs.deplane.Tie as tie
+
+judge-offset-requires : tie.Need-judge-offset-requires
+judge-offset-requires c κs = search needs
+
+enum-known-x : tie.Need-enum-known-x
+enum-known-x c = search needs
+
+enum-told : tie.Need-enum-told
+enum-told c = search needs
+
+remake-requires : tie.Need-remake-requires
+remake-requires c κs =
+    offset-asked _ _ (as-told (c .before .enum-told .given .1) (c .before .before .before .judge-offset .ensures))
+
+same-length : tie.Need-same-length
+same-length c = search needs
+
+returns : tie.Need-returns
+unfolding vramStep vramPlan valueOf
+returns c =
+    perform-refused _ _ _ _ (refusal-some (c .before .x .given .0 .0)) (as-told (c .before .x .given .1) (c .before .before .before .judge-offset .ensures)) refl
+
+same-length-2 : tie.Need-same-length-2
+same-length-2 c = search needs
+
+returns-2 : tie.Need-returns-2
+unfolding vramStep vramPlan memoryAfter valueOf
+returns-2 c =
+    perform-done _ _ _ _ (as-told (c .before .before .before .before .enum-told .given .1) (c .before .before .before .before .before .before .judge-offset .ensures)) (c .before .before .remake .ensures) refl
+
+pub deplane-spec : {M : Type 1} → statement M
+deplane-spec =
+    tie.close
+    (tie.spec
+    judge-offset-requires
+    enum-known-x
+    enum-told
+    remake-requires
+    same-length
+    returns
+    same-length-2
+    returns-2)

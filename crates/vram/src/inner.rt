@@ -1,0 +1,249 @@
+// What the crates above may call, and a host may not: the judges, and functions that ask something of their caller.
+ghost use mathlib.Core.Path.{_≡_};
+ghost use mathlib.Core.List.{List, [], _∷_};
+ghost use Prim.Native.Nat.{ℕ, _<_, _≤_};
+ghost use lib.Dec.{eqb};
+ghost use lib.ListN.{length, getD};
+ghost use Rattle.bits.specs.Bit.{bit, ofBits};
+ghost use Rattle.machine.specs.Memory.{lent, before, after, shape, sound, Shaped};
+ghost use Rattle.machine.specs.Answers.{doneSaid, refusalNumber};
+ghost use Rattle.machine.specs.Deeds.{byte as byteOfPlane, laid, remade};
+ghost use Rattle.machine.specs.Calls.{planeNumber, offsetNumber, placeNumber, shownNumber};
+use machine::DoneAnswer;
+use machine::PixelPlace;
+use machine::PlaneOffset;
+use machine::Refusal;
+
+// A refusal's number in the table of refusals.
+pub fn refusal_number(refusal: Refusal) -> u8
+    ensures { λ r. ⌜ r ≡ refusalNumber refusal ⌝ }
+{
+    match refusal {
+        Refusal::Memory => 1,
+        Refusal::Window => 2,
+        Refusal::Offset => 3,
+        Refusal::Plane => 4,
+        Refusal::Place => 5,
+        Refusal::State => 6,
+        Refusal::Damaged => 7,
+        Refusal::Range => 8,
+        Refusal::Shift => 9,
+        Refusal::Room => 10,
+    }
+}
+
+// Not refusal 1: the plane lengths agree, n is from 1 to 65,536, and the picture is 8n long.
+pub fn shaped(p0: &[u8], p1: &[u8], p2: &[u8], p3: &[u8], picture: &[u8]) -> bool
+    ensures { λ r. ⌜ r ≡ sound (shape (before p0 p1 p2 p3 picture)) ⌝ }
+{
+    let n = p0.len();
+    if n == 0 {
+        return false;
+    }
+    if n > 65536 {
+        return false;
+    }
+    if p1.len() != n {
+        return false;
+    }
+    if p2.len() != n {
+        return false;
+    }
+    if p3.len() != n {
+        return false;
+    }
+    picture.len() == 8 * n
+}
+
+// Refusals 1, 4, 3: of a call that names a plane and an offset.
+pub fn judge_plane(
+    p0: &[u8],
+    p1: &[u8],
+    p2: &[u8],
+    p3: &[u8],
+    picture: &[u8],
+    plane: usize,
+    offset: PlaneOffset,
+) -> DoneAnswer
+    ensures { λ r. ⌜ doneSaid r .number ≡ planeNumber (shape (before p0 p1 p2 p3 picture)) plane (offset .0) ⌝ }
+{
+    if !shaped(p0, p1, p2, p3, picture) {
+        return DoneAnswer::Refused(Refusal::Memory);
+    }
+    if plane > 3 {
+        return DoneAnswer::Refused(Refusal::Plane);
+    }
+    let at = offset.0;
+    if at >= p0.len() {
+        return DoneAnswer::Refused(Refusal::Offset);
+    }
+    DoneAnswer::Done
+}
+
+// Refusals 1, 3: of a call that names an offset.
+pub fn judge_offset(
+    p0: &[u8],
+    p1: &[u8],
+    p2: &[u8],
+    p3: &[u8],
+    picture: &[u8],
+    offset: PlaneOffset,
+) -> DoneAnswer
+    ensures { λ r. ⌜ doneSaid r .number ≡ offsetNumber (shape (before p0 p1 p2 p3 picture)) (offset .0) ⌝ }
+{
+    if !shaped(p0, p1, p2, p3, picture) {
+        return DoneAnswer::Refused(Refusal::Memory);
+    }
+    let at = offset.0;
+    if at >= p0.len() {
+        return DoneAnswer::Refused(Refusal::Offset);
+    }
+    DoneAnswer::Done
+}
+
+// Refusals 1, 5: of a call that names a pixel place.
+pub fn judge_place(
+    p0: &[u8],
+    p1: &[u8],
+    p2: &[u8],
+    p3: &[u8],
+    picture: &[u8],
+    place: PixelPlace,
+) -> DoneAnswer
+    ensures { λ r. ⌜ doneSaid r .number ≡ placeNumber (shape (before p0 p1 p2 p3 picture)) (place .0) ⌝ }
+{
+    if !shaped(p0, p1, p2, p3, picture) {
+        return DoneAnswer::Refused(Refusal::Memory);
+    }
+    let at = place.0;
+    if at >= picture.len() {
+        return DoneAnswer::Refused(Refusal::Place);
+    }
+    DoneAnswer::Done
+}
+
+// Refusals 1, 5: of a show.
+pub fn judge_shown(
+    p0: &[u8],
+    p1: &[u8],
+    p2: &[u8],
+    p3: &[u8],
+    picture: &[u8],
+    offset: PlaneOffset,
+) -> DoneAnswer
+    ensures { λ r. ⌜ doneSaid r .number ≡ shownNumber (shape (before p0 p1 p2 p3 picture)) (offset .0) ⌝ }
+{
+    if !shaped(p0, p1, p2, p3, picture) {
+        return DoneAnswer::Refused(Refusal::Memory);
+    }
+    let at = offset.0;
+    if at >= p0.len() {
+        return DoneAnswer::Refused(Refusal::Place);
+    }
+    DoneAnswer::Done
+}
+
+// A plane's byte.
+pub fn byte(
+    p0: &[u8],
+    p1: &[u8],
+    p2: &[u8],
+    p3: &[u8],
+    picture: &[u8],
+    plane: usize,
+    at: usize,
+) -> u8
+    requires { ⌜ Shaped (lent p0 p1 p2 p3 picture) × ((at < length (now p0)) × (plane ≤ 3)) ⌝ }
+    ensures { λ r. ⌜ r ≡ byteOfPlane (before p0 p1 p2 p3 picture) plane at ⌝ }
+{
+    if plane == 0 {
+        return p0[at];
+    }
+    if plane == 1 {
+        return p1[at];
+    }
+    if plane == 2 {
+        return p2[at];
+    }
+    p3[at]
+}
+
+// A byte laid into a plane; the picture stays as it was, for `remake` to follow once after several planes.
+pub fn lay(
+    p0: &mut [u8],
+    p1: &mut [u8],
+    p2: &mut [u8],
+    p3: &mut [u8],
+    picture: &[u8],
+    plane: usize,
+    at: usize,
+    x: u8,
+)
+    requires { ⌜ Shaped (lent p0 p1 p2 p3 picture) × ((at < length (now p0)) × (plane ≤ 3)) ⌝ }
+    ensures { λ _. ⌜ after p0 p1 p2 p3 picture ≡ laid at (λ q. eqb q plane) (λ q. x) (before p0 p1 p2 p3 picture) ⌝ }
+{
+    if plane == 0 {
+        p0[at] = x;
+        return;
+    }
+    if plane == 1 {
+        p1[at] = x;
+        return;
+    }
+    if plane == 2 {
+        p2[at] = x;
+        return;
+    }
+    p3[at] = x;
+}
+
+// The pixel that four planes' bytes have at bit s: plane p's bit becomes bit p.
+fn pixel(b0: u8, b1: u8, b2: u8, b3: u8, s: u8) -> u8
+    requires { ⌜ s < 8 ⌝ }
+    ensures { λ r. ⌜ r ≡ ofBits 4 (λ p. bit s (getD (b0 ∷ b1 ∷ b2 ∷ b3 ∷ []) p 0)) ⌝ }
+{
+    let bit0 = (b0 >> s) & 1;
+    let bit1 = ((b1 >> s) & 1) << 1;
+    let bit2 = ((b2 >> s) & 1) << 2;
+    let bit3 = ((b3 >> s) & 1) << 3;
+    bit0 | bit1 | bit2 | bit3
+}
+
+// An offset's eight pixels remade: pixel i has bit 7 - i of each plane.
+pub fn remake(p0: &[u8], p1: &[u8], p2: &[u8], p3: &[u8], picture: &mut [u8], at: usize)
+    requires { ⌜ Shaped (lent p0 p1 p2 p3 picture) × (at < length (now p0)) ⌝ }
+    ensures { λ _. ⌜ after p0 p1 p2 p3 picture ≡ remade at (before p0 p1 p2 p3 picture) ⌝ }
+{
+    let b0 = p0[at];
+    let b1 = p1[at];
+    let b2 = p2[at];
+    let b3 = p3[at];
+    let first = machine::inner::first_pixel(PlaneOffset(at));
+    let place = first.0;
+    picture[place] = pixel(b0, b1, b2, b3, 7);
+    picture[place + 1] = pixel(b0, b1, b2, b3, 6);
+    picture[place + 2] = pixel(b0, b1, b2, b3, 5);
+    picture[place + 3] = pixel(b0, b1, b2, b3, 4);
+    picture[place + 4] = pixel(b0, b1, b2, b3, 3);
+    picture[place + 5] = pixel(b0, b1, b2, b3, 2);
+    picture[place + 6] = pixel(b0, b1, b2, b3, 1);
+    picture[place + 7] = pixel(b0, b1, b2, b3, 0);
+}
+
+// A store into one plane, already judged: the byte, then its offset's eight pixels.
+pub fn store(
+    p0: &mut [u8],
+    p1: &mut [u8],
+    p2: &mut [u8],
+    p3: &mut [u8],
+    picture: &mut [u8],
+    plane: usize,
+    at: usize,
+    x: u8,
+)
+    requires { ⌜ Shaped (lent p0 p1 p2 p3 picture) × ((at < length (now p0)) × (plane ≤ 3)) ⌝ }
+    ensures { λ _. ⌜ after p0 p1 p2 p3 picture ≡ remade at (laid at (λ q. eqb q plane) (λ q. x) (before p0 p1 p2 p3 picture)) ⌝ }
+{
+    lay(p0, p1, p2, p3, picture, plane, at, x);
+    remake(p0, p1, p2, p3, picture, at);
+}
