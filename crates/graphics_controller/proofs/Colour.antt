@@ -26,13 +26,13 @@ pixel-is l i = simp shr-and-one (joined (bit i (latch l 0)) (bit i (latch l 1)) 
     joined = same4 (λ a b c d. bitOr (bitOr (bitOr a (b * 2 % 256)) (c * 4 % 256)) (d * 8 % 256)) (λ a b c d. a + 2 * (b + 2 * (c + 2 * (d + 2 * 0)))) tt
 
 -- the rule for a colour of four bits
-abbrev agrees : ℕ → ℕ → ℕ → ℕ
-agrees care colour n = bitOf (every 4 (λ p. pick (isOne (bit p care)) (eqb (bit p n) (bit p colour)) true))
+abbrev sameColour : ℕ → ℕ → ℕ → ℕ
+sameColour care colour n = bitOf (every 4 (λ p. pick (isOne (bit p care)) (eqb (bit p n) (bit p colour)) true))
 
 -- all 4,096 cases are tried
-tested : (care colour n : ℕ) → care < 16 → colour < 16 → n < 16 → bitOf (eqb (bitAnd n care) (bitAnd colour care)) ≡ agrees care colour n
+tested : (care colour n : ℕ) → care < 16 → colour < 16 → n < 16 → bitOf (eqb (bitAnd n care) (bitAnd colour care)) ≡ sameColour care colour n
 unfolding bit
-tested = agree3 16 16 16 (λ care colour n. bitOf (eqb (bitAnd n care) (bitAnd colour care))) agrees tt
+tested = agree3 16 16 16 (λ care colour n. bitOf (eqb (bitAnd n care) (bitAnd colour care))) sameColour tt
 
 bit-of-test : (b : Bool) → bitOf b < 2
 bit-of-test true = omega arith

@@ -6,7 +6,7 @@ use mathlib.Core.Path.{_≡_, refl, ap, _∙_}
 use lib.Bits.{bitOr}
 use borrow.Author.Needs.{needs}
 use Rattle.bits.specs.Bit.{ofBits}
-use Rattle.machine.specs.Deeds.{compared}
+use Rattle.machine.specs.Deeds.{agrees, compared}
 use Rattle.graphics_controller.proofs.Colour.{rule, turn-set, turn-clear}
 use Rattle.graphics_controller.proofs.compare.pixel_op_compare.Statement.{statement}
 use Rattle.graphics_controller.proofs.compare.pixel_op_compare.Tie as tie
@@ -51,7 +51,7 @@ loop-again c =
     )
 
 returns : tie.Need-returns Inv-loop μ-loop
-unfolding compared
+unfolding compared agrees
 returns c =
     let e : c .before .loop .i ≡ 8 = omega arith in
     rw e at (c .before .loop .inv .1)
