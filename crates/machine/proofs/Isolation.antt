@@ -225,11 +225,10 @@ module _ (k : ℕ) where
 
   -- ---- one plan, two answers
 
-  answered-alike : {S : Type 0} (R : S → S → Type 0) (c : ℕ) (v w : Value) (new new′ old old′ : S)
-      → (c ≡ 0 → AlikeValue k v w) → blank v ≡ blank w → R new new′ → R old old′ → Together k R (answered c v new old) (answered c w new′ old′)
-  answered-alike R zero v w new new′ old old′ hv hb hn ho = record { answer = record { number = refl; value = hv refl }; next = hn }
-  answered-alike R (suc c) v w new new′ old old′ hv hb hn ho =
-      record { answer = record { number = refl; value = subst (AlikeValue k (blank v)) hb same }; next = ho }
+  module _ {S : Type 0} (R : S → S → Type 0) (v w : Value) (new new′ old old′ : S) where
+    answered-alike : (c d : ℕ) → c ≡ d → (c ≡ 0 → AlikeValue k v w) → blank v ≡ blank w → R new new′ → R old old′ → Together k R (answered c v new old) (answered d w new′ old′)
+    answered-alike zero d e hv hb hn ho = rw (← e) record { answer = record { number = refl; value = hv refl }; next = hn }
+    answered-alike (suc c) d e hv hb hn ho = rw (← e) record { answer = record { number = refl; value = subst (AlikeValue k (blank v)) hb same }; next = ho }
 
   no-latches : AlikeLatches k [] []
   unfolding AlikeLatches
@@ -239,8 +238,8 @@ module _ (k : ℕ) where
   unfolding perform
   performed a b q m n h s =
       let after = memory-after m n h [] [] no-latches (q .deed) in
-      subst (λ c. Together k (AlikeMemory k) (perform a m) (answered c (valueOf (b .reply) [] (memoryAfter (b .deed) [] n)) (memoryAfter (b .deed) [] n) n)) (q .number)
-      (answered-alike (AlikeMemory k) (a .number) _ _ _ _ m n (λ z. value-same _ _ after [] [] no-latches (q .reply) (s z)) (blank-same _ _ after [] [] no-latches (q .reply)) after h)
+      answered-alike (AlikeMemory k) _ _ _ _ m n (a .number) (b .number) (q .number)
+      (λ z. value-same _ _ after [] [] no-latches (q .reply) (s z)) (blank-same _ _ after [] [] no-latches (q .reply)) after h
 
   record AlikeDevice (d e : Device) : Type 0 where
     gc : AlikeGc k (d .gc) (e .gc)
@@ -252,11 +251,10 @@ module _ (k : ℕ) where
     cpu-performed a b q i s =
         let after = memory-after m n e (g .latches) (h .latches) (c .latches) (q .deed) in
         let held = latches-after m n e (g .latches) (h .latches) (c .latches) (q .deed) in
-        subst (λ z. Together k AlikeDevice (cpuPerform a g m) (answered z (valueOf (b .ask .reply) (cpuAfter b h n .gc .latches) (cpuAfter b h n .memory)) (cpuAfter b h n) (device h n))) (q .number)
-        (answered-alike AlikeDevice (a .ask .number) _ _ (cpuAfter a g m) (cpuAfter b h n) (device g m) (device h n)
+        answered-alike AlikeDevice _ _ (cpuAfter a g m) (cpuAfter b h n) (device g m) (device h n) (a .ask .number) (b .ask .number) (q .number)
         (λ z. value-same _ _ after _ _ held (q .reply) (s z)) (blank-same _ _ after _ _ held (q .reply))
         (record { gc = record { registers = c .registers; stats = ap₂ counted i (c .stats); latches = held }; memory = after })
-        (record { gc = c; memory = e }))
+        (record { gc = c; memory = e })
 
   -- ---- the plans of two alike states
 
@@ -294,10 +292,9 @@ module _ (k : ℕ) where
     graphics-alike : (c : GraphicsCall) → Together k (AlikeGc k) (graphicsStep g c) (graphicsStep h c)
     unfolding graphicsStep
     graphics-alike c =
-        let number = ap (λ r. gcNumberOf r c) (a .registers .same) in
         let value = ap (λ r. gcValue r c) (a .registers .same) in
-        subst (λ n. Together k (AlikeGc k) (graphicsStep g c) (answered n (gcValue (h .registers) c) (gcNext h c) h)) number
-        (answered-alike (AlikeGc k) (gcNumberOf (g .registers) c) _ _ _ _ g h (λ z. subst (AlikeValue k (gcValue (g .registers) c)) value same) (ap blank value) (next-alike c) a)
+        answered-alike (AlikeGc k) _ _ _ _ g h (gcNumberOf (g .registers) c) (gcNumberOf (h .registers) c) (ap (λ r. gcNumberOf r c) (a .registers .same))
+        (λ z. rw value same) (ap blank value) (next-alike c) a
 
   -- ---- one call
 
