@@ -67,13 +67,14 @@ pub fn judge_plane(
 ) -> DoneAnswer
     ensures { λ r. ⌜ doneSaid r .number ≡ planeNumber (shape (before p0 p1 p2 p3 picture)) plane (offset .0) ⌝ }
 {
+    let at = offset.0;
     if !shaped(p0, p1, p2, p3, picture) {
         return DoneAnswer::Refused(Refusal::Memory);
     }
     if plane > 3 {
         return DoneAnswer::Refused(Refusal::Plane);
     }
-    if offset.0 >= p0.len() {
+    if at >= p0.len() {
         return DoneAnswer::Refused(Refusal::Offset);
     }
     DoneAnswer::Done
