@@ -1,3 +1,5 @@
+pub mod Accesses
 pub mod Bytes
 pub mod Colour
+pub mod Planes
 pub mod Windows

@@ -1,4 +1,5 @@
-// The graphics controller: its ports, the way from an address to a plane offset, and the data path of the processor's accesses.
+// The graphics controller: its ports, the way from an address to a plane offset, the processor's accesses and the show.
+mod access;
 mod address;
 mod compare;
 mod count;
@@ -6,7 +7,12 @@ mod data_path;
 pub mod inner;
 mod registers;
 mod select;
+mod show;
+mod visit;
 
+pub use access::cpu_peek_u8;
+pub use access::cpu_read_u8;
+pub use access::cpu_write_u8;
 pub use address::map_address;
 pub use registers::chain;
 pub use registers::chain4;
@@ -18,3 +24,4 @@ pub use registers::reset;
 pub use registers::shift_mode;
 pub use registers::write_address;
 pub use registers::write_data;
+pub use show::serialize;

@@ -1,0 +1,235 @@
+-- An access from its judge to its outcome: what a located address says, refusals 6, 1, 2, 3 in their turn, and a plan carried out on both records and memory.
+use Prim.Native.Nat.{ℕ, zero, suc, _+_, _*_, _/_, _≤_, _<_}
+use native.Mathlib.Omega.{arith}
+use mathlib.Core.Path.{_≡_, refl, sym, ap, _∙_}
+use mathlib.Core.Bool.{Bool, true, false, _&&_}
+use mathlib.Core.List.{List, []}
+use lib.Dec.{leb}
+use lib.ListN.{length, getD, take, drop}
+use borrow.Author.Tests.{ltb-true, leb-true, lt-ltb, le-ltb}
+use Rattle.bits.specs.Bit.{bitOf, pick}
+use Rattle.machine.specs.declared.answer.Refusal.{Refusal}
+use Rattle.machine.specs.declared.answer.MappedAnswer.{MappedAnswer}
+use Rattle.machine.specs.declared.answer.MappedAnswer.the-variants.{Done as MappedDone, Refused as MappedRefused}
+use Rattle.machine.specs.declared.place.PlaneOffset.{PlaneOffset}
+use Rattle.machine.specs.declared.graphics.GraphicsControllerStats.{GraphicsControllerStats}
+use Rattle.machine.specs.declared.graphics.WriteMode.{WriteMode}
+use Rattle.machine.specs.declared.graphics.WriteMode.the-variants.{Mode0, Mode1, Mode2, Invalid}
+use Rattle.machine.specs.declared.graphics.GraphicsRegisters.{GraphicsRegisters}
+use Rattle.machine.specs.declared.graphics.GraphicsController.{GraphicsController}
+use Rattle.machine.specs.declared.graphics.ReadMode.{ReadMode}
+use Rattle.machine.specs.declared.graphics.ReadMode.the-variants.{ReadSelectedPlane, ReadComparedPlanes}
+use Rattle.machine.specs.declared.sequencer.Sequencer.{Sequencer}
+use Rattle.machine.specs.Memory.{Memory, Shape, shape, sound}
+use Rattle.machine.specs.Answers.{refusalNumber, Value, one, two, blank, said, part, Outcome, outcome, answered, mappedSaid}
+use Rattle.machine.specs.Graphics.{fitsGc, memoryMap, oddEven, isOddEven, readMode, writeMode, shiftMode, gcOf}
+use Rattle.machine.specs.Sequencer.{fitsSeq}
+use Rattle.machine.specs.Address.{inWindow, a0, offset}
+use Rattle.machine.specs.DataPath.{selectedPlane}
+use Rattle.machine.specs.Deeds.{byte, latch, loaded, latchesAfter, memoryAfter, valueOf}
+use Rattle.machine.specs.Calls.{refuse, fitsBoth, accessNumber, shows, showNumber, CpuPlan, counted, readCounter, writeCounter, readReply, writeDeed, cpuPlan, cpuRead, cpuPeek, cpuWrite, serialize}
+use Rattle.machine.specs.Step.{device, cpuPerform, cpuStep}
+use Rattle.machine.proofs.Laws.{both, refuse-0, sound-shaped, AtOffset, answered-done, answered-refused}
+use Rattle.graphics_controller.specs.Reads.{readByte}
+
+-- ---- what an answer says of an address
+
+-- an offset and a0 were answered: nothing was refused, and they are the machine's
+pub record Located (n o o′ : ℕ) (a a′ : Bool) : Type 0 where
+  pub accepted : 0 ≡ n
+  pub offset : o ≡ o′
+  pub bit0 : a ≡ a′
+
+bit-one : (a b : Bool) → bitOf a ≡ bitOf b → a ≡ b
+bit-one true true e = refl
+bit-one true false e = absurd (omega arith)
+bit-one false true e = absurd (omega arith)
+bit-one false false e = refl
+
+module _ {S : Type 0} (s : S) (d : MappedAnswer) (n o : ℕ) (a : Bool) (e : outcome (mappedSaid d) s ≡ answered n (two o (bitOf a)) s s) where
+  pub located : (p : PlaneOffset) (b : Bool) → d ≡ MappedDone p b → Located n (p .0) o b a
+  located p b h = go n (sym (ap (λ (d : MappedAnswer). outcome (mappedSaid d) s) h) ∙ e)
+    where
+      go : (n : ℕ) → outcome (said 0 (two (p .0) (bitOf b))) s ≡ answered n (two o (bitOf a)) s s → Located n (p .0) o b a
+      go zero e =
+          let v : two (p .0) (bitOf b) ≡ two o (bitOf a) = ap (λ (t : Outcome S). t .answer .value) e in
+          let f : p .0 ≡ o = cc in
+          let g : bitOf b ≡ bitOf a = cc in
+          record { accepted = refl; offset = f; bit0 = bit-one b a g }
+      go (suc n) e = absurd (let z : 0 ≡ suc n = ap (λ (t : Outcome S). t .answer .number) e in omega arith)
+
+  -- a refusal has its number
+  pub unlocated : (x : Refusal) → d ≡ MappedRefused x → refusalNumber x ≡ n
+  unlocated x h = go n (sym (ap (λ (d : MappedAnswer). outcome (mappedSaid d) s) h) ∙ e)
+    where
+      go : (n : ℕ) → outcome (said (refusalNumber x) (two 0 0)) s ≡ answered n (two o (bitOf a)) s s → refusalNumber x ≡ n
+      go zero e = ap (λ (t : Outcome S). t .answer .number) e
+      go (suc n) e = ap (λ (t : Outcome S). t .answer .number) e
+
+-- ---- refusals in their turn
+
+module _ (r : GraphicsRegisters) (s : Sequencer) (h : Shape) (x : ℕ) (page : Bool) where
+  -- both records hold what they can
+  pub access-fits : 0 ≡ accessNumber r s h x page → (fitsGc r ≡ true) × (fitsSeq s ≡ true)
+  unfolding accessNumber
+  access-fits e = both (fitsGc r) (fitsSeq s) (refuse-0 (fitsBoth r s) 5 _ (sym e) .0)
+
+-- 6 and 1 passed: the judge's answer from that of the map
+module _ (r : GraphicsRegisters) (s : Sequencer) (m : Memory) (x : ℕ) (page : Bool) (e : fitsGc r ≡ true) (f : fitsSeq s ≡ true) (g : sound (shape m) ≡ true) where
+  abbrev Judged : ℕ → Value → Type 0
+  Judged k v = outcome (said k v) r ≡ answered (accessNumber r s (shape m) x page) (two (offset r x page) (bitOf (a0 x))) r r
+
+  abbrev windowed : ℕ
+  windowed = refuse (inWindow (memoryMap r) x) 2 0
+
+  in-window : 0 ≡ windowed → inWindow (memoryMap r) x ≡ true
+  in-window h = refuse-0 (inWindow (memoryMap r) x) 1 0 (sym h) .0
+
+  -- 2 is given whatever the offset would be
+  pub judged-refused : (k : ℕ) → 0 < k → k ≡ windowed → Judged k (two 0 0)
+  judged-refused k h l = answered-refused k (accessNumber r s (shape m) x page) _ _ r r h (l ∙ go (inWindow (memoryMap r) x) refl) refl
+    where
+      go : (b : Bool) → inWindow (memoryMap r) x ≡ b → refuse b 2 0 ≡ accessNumber r s (shape m) x page
+      go true w = absurd (let z : k ≡ 0 = l ∙ ap (λ (b : Bool). refuse b 2 0) w in omega arith)
+      go false w = unfold accessNumber in simp (e, f, g, w)
+
+  module _ (o : ℕ) (b : Bool) (h : Located windowed o (offset r x page) b (a0 x)) where
+    pub judged-beyond : length (m .p0) ≤ o → Judged 3 (two 0 0)
+    unfolding accessNumber
+    judged-beyond l = simp (e, f, g, in-window (h .accepted), le-ltb (offset r x page) (length (m .p0)) (omega (arith, h .offset)))
+
+    pub judged-done : o < length (m .p0) → Judged 0 (two o (bitOf b))
+    unfolding accessNumber
+    judged-done l = simp (e, f, g, in-window (h .accepted), lt-ltb (offset r x page) (length (m .p0)) (omega (arith, h .offset)), h .offset, h .bit0)
+
+-- 6, 1, 9 and 5 passed
+pub show-accepted : (r : GraphicsRegisters) (s : Sequencer) (m : Memory) (o : ℕ) → 0 ≡ showNumber r s (shape m) o → AtOffset m o
+unfolding showNumber
+show-accepted r s m o e =
+    let a = refuse-0 (fitsBoth r s) 5 _ (sym e) in
+    let b = refuse-0 (sound (shape m)) 0 _ (a .1) in
+    let c = refuse-0 (shows (shiftMode r)) 8 _ (b .1) in
+    let d = refuse-0 _ 4 _ (c .1) in
+    record { shaped = sound-shaped m (b .0); offset = ltb-true _ _ (d .0) }
+
+-- what a read asks of the registers
+pub read-fits : (r : GraphicsRegisters) → fitsGc r ≡ true → (r .«read_map_select» ≤ 3) × ((r .«color_dont_care» ≤ 15) × (r .«color_compare» ≤ 15))
+unfolding fitsGc
+read-fits r e =
+    let a = both (leb (r .«register_select_byte») 15) _ e in
+    let b = both (leb (r .«set_reset») 15) _ (a .1) in
+    let c = both (leb (r .«enable_set_reset») 15) _ (b .1) in
+    let d = both (leb (r .«color_compare») 15) _ (c .1) in
+    let f = both (leb (r .«color_dont_care») 15) _ (d .1) in
+    (leb-true _ _ (f .1), (leb-true _ _ (f .0), leb-true _ _ (d .0)))
+
+-- ---- a plan carried out
+
+module _ (a : CpuPlan) (g : GraphicsController) (m : Memory) where
+  pub cpu-refused : (k : ℕ) (v : Value) → 0 < k → k ≡ a .ask .number → v ≡ blank (valueOf (a .ask .reply) (latchesAfter (a .ask .deed) (g .latches) m) (memoryAfter (a .ask .deed) (g .latches) m))
+      → outcome (said k v) (device g m) ≡ cpuPerform a g m
+  cpu-refused k v h e f = answered-refused k (a .ask .number) _ v _ (device g m) h e f
+
+  pub cpu-done : (g′ : GraphicsController) (m′ : Memory) (v : Value) → 0 ≡ a .ask .number
+      → g′ ≡ gcOf (g .registers) (counted (a .counter) (g .stats)) (latchesAfter (a .ask .deed) (g .latches) m)
+      → m′ ≡ memoryAfter (a .ask .deed) (g .latches) m
+      → v ≡ valueOf (a .ask .reply) (latchesAfter (a .ask .deed) (g .latches) m) (memoryAfter (a .ask .deed) (g .latches) m)
+      → outcome (said 0 v) (device g′ m′) ≡ cpuPerform a g m
+  cpu-done g′ m′ v e eg em ev = rw (eg, em, ev, ← e)
+
+-- ---- a read
+
+-- a selected plane is one of four
+pub select-small : (r : GraphicsRegisters) (x : ℕ) → r .«read_map_select» ≤ 3 → selectedPlane r x ≤ 3
+unfolding selectedPlane
+select-small r x h = go (isOddEven (oddEven r)) (a0 x)
+  where
+    go : (b c : Bool) → pick b (r .«read_map_select» / 2 * 2 + bitOf c) (r .«read_map_select») ≤ 3
+    go true true = omega arith
+    go true false = omega arith
+    go false c = h
+
+loaded-at : (m : Memory) (o p : ℕ) → p ≤ 3 → latch (loaded m o) p ≡ byte m p o
+unfolding loaded
+loaded-at m o zero h = refl
+loaded-at m o (suc zero) h = refl
+loaded-at m o (suc (suc zero)) h = refl
+loaded-at m o (suc (suc (suc zero))) h = refl
+loaded-at m o (suc (suc (suc (suc p)))) h = absurd (omega arith)
+
+-- from the latches just loaded the answer is the machine's
+pub read-value : (w : ReadMode) (r : GraphicsRegisters) (m : Memory) (o x : ℕ) → r .«read_map_select» ≤ 3
+    → one (readByte w r x (loaded m o)) ≡ valueOf (readReply w r x o) (loaded m o) m
+unfolding readByte readReply valueOf
+read-value ReadSelectedPlane r m o x h = ap one (loaded-at m o (selectedPlane r x) (select-small r x h))
+read-value ReadComparedPlanes r m o x h = refl
+
+-- a refused read answers 0
+pub read-blank : (w : ReadMode) (r : GraphicsRegisters) (x o : ℕ) (l : List ℕ) (m : Memory) → one 0 ≡ blank (valueOf (readReply w r x o) l m)
+unfolding readReply valueOf
+read-blank ReadSelectedPlane r x o l m = refl
+read-blank ReadComparedPlanes r x o l m = refl
+
+-- ---- the four calls
+
+module _ (g : GraphicsController) (s : Sequencer) (m : Memory) (x : ℕ) (page : Bool) where
+  abbrev number : ℕ
+  number = accessNumber (g .registers) s (shape m) x page
+
+  abbrev at : ℕ
+  at = offset (g .registers) x page
+
+  pub read-refused : (k : ℕ) → 0 < k → k ≡ number → outcome (said k (one 0)) (device g m) ≡ cpuStep g s m (cpuRead x page)
+  unfolding cpuStep cpuPlan
+  read-refused k h e = cpu-refused (cpuPlan (g .registers) s (shape m) (cpuRead x page)) g m k (one 0) h e (read-blank (readMode (g .registers)) (g .registers) x at _ _)
+
+  -- latches loaded, one counter raised, and the answer from them
+  pub read-done : (o : ℕ) (w : ReadMode) (c : GraphicsControllerStats) (l : List ℕ) (y : ℕ) → 0 ≡ number → o ≡ at → w ≡ readMode (g .registers)
+      → c ≡ counted (readCounter w) (g .stats) → l ≡ loaded m o → y ≡ readByte w (g .registers) x l
+      → outcome (said 0 (one y)) (device (gcOf (g .registers) c l) m) ≡ cpuStep g s m (cpuRead x page)
+  unfolding cpuStep cpuPlan latchesAfter memoryAfter
+  read-done o w c l y e eo ew ec el ey =
+      let f : g .registers .«read_map_select» ≤ 3 = read-fits (g .registers) (access-fits (g .registers) s (shape m) x page e .0) .0 in
+      let v : l ≡ loaded m at = el ∙ ap (loaded m) eo in
+      cpu-done (cpuPlan (g .registers) s (shape m) (cpuRead x page)) g m (gcOf (g .registers) c l) m (one y) e
+      (rw (ec, ew, v)) refl
+      (rw (ey, ew, v) (read-value (readMode (g .registers)) (g .registers) m at x f))
+
+  pub peek-refused : (k : ℕ) → 0 < k → k ≡ number → outcome (said k (one 0)) (device g m) ≡ cpuStep g s m (cpuPeek x page)
+  unfolding cpuStep cpuPlan valueOf
+  peek-refused k h e = cpu-refused (cpuPlan (g .registers) s (shape m) (cpuPeek x page)) g m k (one 0) h e refl
+
+  pub peek-done : (o : ℕ) → 0 ≡ number → o ≡ at → outcome (said 0 (one (getD (m .p0) o 0))) (device g m) ≡ cpuStep g s m (cpuPeek x page)
+  unfolding cpuStep cpuPlan counted latchesAfter memoryAfter valueOf
+  peek-done o e eo = cpu-done (cpuPlan (g .registers) s (shape m) (cpuPeek x page)) g m g m (one (getD (m .p0) o 0)) e refl refl (ap (λ (o : ℕ). one (getD (m .p0) o 0)) eo)
+
+  pub write-refused : (v k : ℕ) → 0 < k → k ≡ number → outcome (said k (one 0)) (device g m) ≡ cpuStep g s m (cpuWrite x page v)
+  unfolding cpuStep cpuPlan valueOf
+  write-refused v k h e = cpu-refused (cpuPlan (g .registers) s (shape m) (cpuWrite x page v)) g m k (one 0) h e refl
+
+  -- a write moves no latch
+  write-latches : (w : WriteMode) (o v : ℕ) → g .latches ≡ latchesAfter (writeDeed w (g .registers) s x o v) (g .latches) m
+  unfolding writeDeed latchesAfter
+  write-latches Mode0 o v = refl
+  write-latches Mode1 o v = refl
+  write-latches Mode2 o v = refl
+  write-latches Invalid o v = refl
+
+  -- one counter raised, and the mode's deed done
+  pub write-done : (v o : ℕ) (w : WriteMode) (c : GraphicsControllerStats) (m′ : Memory) → 0 ≡ number → o ≡ at → w ≡ writeMode (g .registers)
+      → c ≡ counted (writeCounter w) (g .stats) → m′ ≡ memoryAfter (writeDeed w (g .registers) s x o v) (g .latches) m
+      → outcome (said 0 (one 0)) (device (gcOf (g .registers) c (g .latches)) m′) ≡ cpuStep g s m (cpuWrite x page v)
+  unfolding cpuStep cpuPlan valueOf
+  write-done v o w c m′ e eo ew ec em =
+      cpu-done (cpuPlan (g .registers) s (shape m) (cpuWrite x page v)) g m (gcOf (g .registers) c (g .latches)) m′ (one 0) e
+      (rw (ec, ew) (ap (gcOf (g .registers) (counted (writeCounter (writeMode (g .registers))) (g .stats))) (write-latches (writeMode (g .registers)) at v)))
+      (rw (← ew, ← eo) em) refl
+
+module _ (g : GraphicsController) (s : Sequencer) (m : Memory) (o : ℕ) where
+  pub show-refused : (k : ℕ) → 0 < k → k ≡ showNumber (g .registers) s (shape m) o → outcome (said k (part [])) (device g m) ≡ cpuStep g s m (serialize o)
+  unfolding cpuStep cpuPlan valueOf
+  show-refused k h e = cpu-refused (cpuPlan (g .registers) s (shape m) (serialize o)) g m k (part []) h e refl
+
+  pub show-done : (l : List ℕ) → 0 ≡ showNumber (g .registers) s (shape m) o → l ≡ take 8 (drop (8 * o) (m .picture)) → outcome (said 0 (part l)) (device g m) ≡ cpuStep g s m (serialize o)
+  unfolding cpuStep cpuPlan counted latchesAfter memoryAfter valueOf
+  show-done l e el = cpu-done (cpuPlan (g .registers) s (shape m) (serialize o)) g m g m (part l) e refl refl (ap part el)

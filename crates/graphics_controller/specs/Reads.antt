@@ -1,0 +1,13 @@
+-- A short name for a part of the machine's read: nothing is defined here that the machine has not.
+use Prim.Native.Nat.{ℕ}
+use mathlib.Core.List.{List}
+use Rattle.machine.specs.declared.graphics.GraphicsRegisters.{GraphicsRegisters}
+use Rattle.machine.specs.declared.graphics.ReadMode.{ReadMode}
+use Rattle.machine.specs.declared.graphics.ReadMode.the-variants.{ReadSelectedPlane, ReadComparedPlanes}
+use Rattle.machine.specs.DataPath.{selectedPlane}
+use Rattle.machine.specs.Deeds.{latch, compared}
+
+-- what the machine's read replies, from the latches that it loaded
+unfoldable pub readByte : ReadMode → GraphicsRegisters → ℕ → List ℕ → ℕ
+readByte ReadSelectedPlane r x l = latch l (selectedPlane r x)
+readByte ReadComparedPlanes r x l = compared (r .«color_dont_care») (r .«color_compare») l

@@ -1,0 +1,205 @@
+// The processor's accesses: each judged once, then read or written through the latches and counted.
+ghost use mathlib.Core.Path.{_≡_};
+ghost use Prim.Native.Nat.{_<_, _≤_};
+ghost use lib.ListN.{length};
+ghost use Rattle.bits.specs.Bit.{bitOf};
+ghost use Rattle.machine.specs.Memory.{lent, before, after, shape, Shaped};
+ghost use Rattle.machine.specs.Answers.{two, outcome, answered, byteSaid, storeSaid, mappedSaid};
+ghost use Rattle.machine.specs.Address.{a0 as bit0, offset as offsetOf};
+ghost use Rattle.machine.specs.Deeds.{loaded};
+ghost use Rattle.machine.specs.Calls.{accessNumber, cpuRead, cpuPeek, cpuWrite};
+ghost use Rattle.machine.specs.Step.{device, cpuStep};
+ghost use Rattle.graphics_controller.specs.Reads.{readByte};
+use crate::address::locate;
+use crate::compare::pixel_op_compare;
+use crate::count::counted_read;
+use crate::count::counted_write;
+use crate::inner;
+use crate::select::selected_plane;
+use crate::visit::write_planes;
+use machine::ByteAnswer;
+use machine::CpuByte;
+use machine::CpuStore;
+use machine::GraphicsController;
+use machine::GraphicsRegisters;
+use machine::MappedAnswer;
+use machine::ReadMode;
+use machine::Refusal;
+use machine::Sequencer;
+use machine::StoreAnswer;
+
+// Refusals 6, 1, 2, 3, or the offset and a0, so that no address is mapped twice.
+fn judge(
+    registers: GraphicsRegisters,
+    seq: Sequencer,
+    p0: &[u8],
+    p1: &[u8],
+    p2: &[u8],
+    p3: &[u8],
+    picture: &[u8],
+    address: usize,
+    page: bool,
+) -> MappedAnswer
+    ensures { λ r. ⌜ outcome (mappedSaid r) registers ≡ answered (accessNumber registers seq (shape (before p0 p1 p2 p3 picture)) address page) (two (offsetOf registers address page) (bitOf (bit0 address))) registers registers ⌝ }
+{
+    if !inner::fits(registers) {
+        return MappedAnswer::Refused(Refusal::State);
+    }
+    if !sequencer::inner::fits(seq) {
+        return MappedAnswer::Refused(Refusal::State);
+    }
+    if !vram::inner::shaped(p0, p1, p2, p3, picture) {
+        return MappedAnswer::Refused(Refusal::Memory);
+    }
+    match locate(registers, address, page) {
+        MappedAnswer::Refused(x) => MappedAnswer::Refused(x),
+        MappedAnswer::Done(offset, a0) => {
+            let at = offset.0;
+            if at >= p0.len() {
+                return MappedAnswer::Refused(Refusal::Offset);
+            }
+            MappedAnswer::Done(offset, a0)
+        }
+    }
+}
+
+// The four planes' bytes at an offset.
+fn load(p0: &[u8], p1: &[u8], p2: &[u8], p3: &[u8], picture: &[u8], at: usize) -> [u8; 4]
+    requires { ⌜ Shaped (lent p0 p1 p2 p3 picture) × (at < length (now p0)) ⌝ }
+    ensures { λ r. ⌜ r ≡ loaded (before p0 p1 p2 p3 picture) at ⌝ }
+{
+    [p0[at], p1[at], p2[at], p3[at]]
+}
+
+// What a read answers from the latches that it loaded.
+fn read_byte(mode: ReadMode, registers: GraphicsRegisters, latches: [u8; 4], address: usize) -> u8
+    requires { ⌜ (registers .«read_map_select» ≤ 3) × ((registers .«color_dont_care» ≤ 15) × (registers .«color_compare» ≤ 15)) ⌝ }
+    ensures { λ r. ⌜ r ≡ readByte mode registers address latches ⌝ }
+{
+    match mode {
+        ReadMode::ReadSelectedPlane => {
+            let plane = selected_plane(registers, address);
+            latches[plane]
+        }
+        ReadMode::ReadComparedPlanes => {
+            pixel_op_compare(registers.color_dont_care, registers.color_compare, latches)
+        }
+    }
+}
+
+// A read by the processor: it loads all four latches, whichever plane is asked for.
+pub fn cpu_read_u8(
+    gc: GraphicsController,
+    seq: Sequencer,
+    p0: &[u8],
+    p1: &[u8],
+    p2: &[u8],
+    p3: &[u8],
+    picture: &[u8],
+    address: usize,
+    page: bool,
+) -> CpuByte
+    ensures { λ r. ⌜ outcome (byteSaid (r .answer)) (device (r .gc) (before p0 p1 p2 p3 picture)) ≡ cpuStep gc seq (before p0 p1 p2 p3 picture) (cpuRead address page) ⌝ }
+{
+    let registers = gc.registers;
+    match judge(registers, seq, p0, p1, p2, p3, picture, address, page) {
+        MappedAnswer::Refused(x) => CpuByte {
+            answer: ByteAnswer::Refused(x),
+            gc,
+        },
+        MappedAnswer::Done(offset, _) => {
+            let at = offset.0;
+            let latches = load(p0, p1, p2, p3, picture, at);
+            let mode = registers.read_mode();
+            let byte = read_byte(mode, registers, latches, address);
+            let stats = counted_read(mode, gc.stats);
+            let next = GraphicsController {
+                registers,
+                stats,
+                latches,
+            };
+            CpuByte {
+                answer: ByteAnswer::Done(byte),
+                gc: next,
+            }
+        }
+    }
+}
+
+// Plane 0's byte; no latch and no counter moves.
+pub fn cpu_peek_u8(
+    gc: GraphicsController,
+    seq: Sequencer,
+    p0: &[u8],
+    p1: &[u8],
+    p2: &[u8],
+    p3: &[u8],
+    picture: &[u8],
+    address: usize,
+    page: bool,
+) -> ByteAnswer
+    ensures { λ r. ⌜ outcome (byteSaid r) (device gc (before p0 p1 p2 p3 picture)) ≡ cpuStep gc seq (before p0 p1 p2 p3 picture) (cpuPeek address page) ⌝ }
+{
+    match judge(gc.registers, seq, p0, p1, p2, p3, picture, address, page) {
+        MappedAnswer::Refused(x) => ByteAnswer::Refused(x),
+        MappedAnswer::Done(offset, _) => {
+            let at = offset.0;
+            ByteAnswer::Done(p0[at])
+        }
+    }
+}
+
+// A write by the processor, through the mode, the latches and the mask.
+pub fn cpu_write_u8(
+    gc: GraphicsController,
+    seq: Sequencer,
+    p0: &mut [u8],
+    p1: &mut [u8],
+    p2: &mut [u8],
+    p3: &mut [u8],
+    picture: &mut [u8],
+    address: usize,
+    page: bool,
+    byte: u8,
+) -> CpuStore
+    ensures { λ r. ⌜ outcome (storeSaid (r .answer)) (device (r .gc) (after p0 p1 p2 p3 picture)) ≡ cpuStep gc seq (before p0 p1 p2 p3 picture) (cpuWrite address page byte) ⌝ }
+{
+    let registers = gc.registers;
+    let judged = judge(registers, seq, p0, p1, p2, p3, picture, address, page);
+    match judged {
+        MappedAnswer::Refused(x) => CpuStore {
+            answer: StoreAnswer::Refused(x),
+            gc,
+        },
+        MappedAnswer::Done(offset, a0) => {
+            let at = offset.0;
+            let mode = registers.write_mode();
+            let latches = gc.latches;
+            write_planes(
+                mode,
+                registers,
+                seq,
+                latches,
+                p0,
+                p1,
+                p2,
+                p3,
+                picture,
+                at,
+                a0,
+                address,
+                byte,
+            );
+            let stats = counted_write(mode, gc.stats);
+            let next = GraphicsController {
+                registers,
+                stats,
+                latches,
+            };
+            CpuStore {
+                answer: StoreAnswer::Done,
+                gc: next,
+            }
+        }
+    }
+}
