@@ -1,0 +1,96 @@
+-- Any two outcomes that a call's contract permits for one input coincide: the answer itself, and each slice that the call may change. `Post` is each contract's own reading.
+-- A `&` slice is at exit what it was; of a part handed back the pixels are fixed, and that it is the caller's own picture follows from its lifetime.
+use Prim.Native.Nat.{ℕ}
+use mathlib.Core.Path.{_≡_, ap, sym, _∙_}
+use mathlib.Core.List.{List, []}
+use contract.Lifetimes.{Lfts}
+use denote.Ref.{RefT, now}
+use denote.Triple.Clauses.{AtExit}
+use borrow.Fn.Kinds.{Dens, endedOf}
+use Rattle.machine.specs.declared.answer.ByteAnswer.{ByteAnswer}
+use Rattle.machine.specs.declared.answer.StoreAnswer.{StoreAnswer}
+use Rattle.machine.specs.declared.answer.DoneAnswer.{DoneAnswer}
+use Rattle.machine.specs.Memory.{Memory, lent}
+use Rattle.machine.specs.Answers.{Value, one, two, pixel, part, Said, Outcome, outcome}
+use Rattle.machine.proofs.Injective.{byte-injective, pixel-injective, store-injective, done-injective}
+use Rattle.vram.proofs.read_glyph.Reads as read-glyph
+use Rattle.vram.proofs.read_glyph.Kinds as read-glyph-kinds
+use Rattle.vram.proofs.peek_u8.Reads as peek-u8
+use Rattle.vram.proofs.peek_u8.Kinds as peek-u8-kinds
+use Rattle.vram.proofs.read_u8.Reads as read-u8
+use Rattle.vram.proofs.read_u8.Kinds as read-u8-kinds
+use Rattle.vram.proofs.write_u8.Reads as write-u8
+use Rattle.vram.proofs.write_u8.Kinds as write-u8-kinds
+use Rattle.vram.proofs.read_linear.Reads as read-linear
+use Rattle.vram.proofs.read_linear.Kinds as read-linear-kinds
+use Rattle.vram.proofs.serialize_linear.Reads as serialize-linear
+use Rattle.vram.proofs.serialize_linear.Kinds as serialize-linear-kinds
+use Rattle.vram.proofs.deplane.Reads as deplane
+use Rattle.vram.proofs.deplane.Kinds as deplane-kinds
+use Rattle.vram.proofs.plane_set.Reads as plane-set
+use Rattle.vram.proofs.plane_set.Kinds as plane-set-kinds
+use Rattle.vram.proofs.plane_and.Reads as plane-and
+use Rattle.vram.proofs.plane_and.Kinds as plane-and-kinds
+use Rattle.vram.proofs.plane_or.Reads as plane-or
+use Rattle.vram.proofs.plane_or.Kinds as plane-or-kinds
+
+-- two outcomes that are the machine's are one: the same is said, and the same is left
+module _ {a b : Said} {m n : Memory} {o : Outcome Memory} (p : outcome a m ≡ o) (q : outcome b n ≡ o) where
+  answer-of : a ≡ b
+  answer-of = ap (λ (o : Outcome Memory). o .answer) (p ∙ sym q)
+
+  next-of : m ≡ n
+  next-of = ap (λ (o : Outcome Memory). o .next) (p ∙ sym q)
+
+abbrev pixelsOf : Value → List ℕ
+pixelsOf (one x) = []
+pixelsOf (two x y) = []
+pixelsOf (pixel x) = []
+pixelsOf (part l) = l
+
+-- what the four stores leave behind their five slices
+abbrev Stored : Lfts 5 → Type 0
+Stored κs = AtExit (endedOf 5 plane-set-kinds.ps plane-set-kinds.r) κs
+
+abbrev left : (κs : Lfts 5) → Stored κs → Memory
+left κs e = lent (e .0) (e .1 .0) (e .1 .1 .0) (e .1 .1 .1 .0) (e .1 .1 .1 .1 .0)
+
+module _ (κs : Lfts 5) (a : Dens κs read-glyph-kinds.ps) where
+  pub read-glyph-determined : (r r′ : ByteAnswer) (e e′ : AtExit (endedOf 5 read-glyph-kinds.ps read-glyph-kinds.r) κs) → read-glyph.Post κs a r e → read-glyph.Post κs a r′ e′ → r ≡ r′
+  read-glyph-determined r r′ e e′ p q = byte-injective r r′ (answer-of p q)
+
+module _ (κs : Lfts 5) (a : Dens κs peek-u8-kinds.ps) where
+  pub peek-u8-determined : (r r′ : ByteAnswer) (e e′ : AtExit (endedOf 5 peek-u8-kinds.ps peek-u8-kinds.r) κs) → peek-u8.Post κs a r e → peek-u8.Post κs a r′ e′ → r ≡ r′
+  peek-u8-determined r r′ e e′ p q = byte-injective r r′ (answer-of p q)
+
+module _ (κs : Lfts 5) (a : Dens κs read-u8-kinds.ps) where
+  pub read-u8-determined : (r r′ : ByteAnswer) (e e′ : AtExit (endedOf 5 read-u8-kinds.ps read-u8-kinds.r) κs) → read-u8.Post κs a r e → read-u8.Post κs a r′ e′ → r ≡ r′
+  read-u8-determined r r′ e e′ p q = byte-injective r r′ (answer-of p q)
+
+module _ (κs : Lfts 5) (a : Dens κs write-u8-kinds.ps) where
+  pub write-u8-determined : (r r′ : StoreAnswer) (e e′ : Stored κs) → write-u8.Post κs a r e → write-u8.Post κs a r′ e′ → (r ≡ r′) × (left κs e ≡ left κs e′)
+  write-u8-determined r r′ e e′ p q = (store-injective r r′ (answer-of p q), next-of p q)
+
+module _ (κs : Lfts 5) (a : Dens κs read-linear-kinds.ps) where
+  pub read-linear-determined : (r r′ : ByteAnswer) (e e′ : AtExit (endedOf 5 read-linear-kinds.ps read-linear-kinds.r) κs) → read-linear.Post κs a r e → read-linear.Post κs a r′ e′ → r ≡ r′
+  read-linear-determined r r′ e e′ p q = pixel-injective r r′ (answer-of p q)
+
+module _ (κs : Lfts 6) (a : Dens κs serialize-linear-kinds.ps) where
+  pub serialize-linear-determined : (r r′ : RefT (List ℕ)) (e e′ : AtExit (endedOf 6 serialize-linear-kinds.ps serialize-linear-kinds.r) κs) → serialize-linear.Post κs a r e → serialize-linear.Post κs a r′ e′ → (now r ≡ now r′) × (now (e .1 .1 .1 .1 .1 .1 .0) ≡ now (e′ .1 .1 .1 .1 .1 .1 .0))
+  serialize-linear-determined r r′ e e′ p q = (ap (λ (s : Said). pixelsOf (s .value)) (answer-of p q), ap (λ (s : Said). s .number) (answer-of p q))
+
+module _ (κs : Lfts 5) (a : Dens κs deplane-kinds.ps) where
+  pub deplane-determined : (r r′ : DoneAnswer) (e e′ : AtExit (endedOf 5 deplane-kinds.ps deplane-kinds.r) κs) → deplane.Post κs a r e → deplane.Post κs a r′ e′ → (r ≡ r′) × (now (e .1 .1 .1 .1 .0) ≡ now (e′ .1 .1 .1 .1 .0))
+  deplane-determined r r′ e e′ p q = (done-injective r r′ (answer-of p q), ap (λ (m : Memory). m .picture) (next-of p q))
+
+module _ (κs : Lfts 5) (a : Dens κs plane-set-kinds.ps) where
+  pub plane-set-determined : (r r′ : StoreAnswer) (e e′ : Stored κs) → plane-set.Post κs a r e → plane-set.Post κs a r′ e′ → (r ≡ r′) × (left κs e ≡ left κs e′)
+  plane-set-determined r r′ e e′ p q = (store-injective r r′ (answer-of p q), next-of p q)
+
+module _ (κs : Lfts 5) (a : Dens κs plane-and-kinds.ps) where
+  pub plane-and-determined : (r r′ : StoreAnswer) (e e′ : Stored κs) → plane-and.Post κs a r e → plane-and.Post κs a r′ e′ → (r ≡ r′) × (left κs e ≡ left κs e′)
+  plane-and-determined r r′ e e′ p q = (store-injective r r′ (answer-of p q), next-of p q)
+
+module _ (κs : Lfts 5) (a : Dens κs plane-or-kinds.ps) where
+  pub plane-or-determined : (r r′ : StoreAnswer) (e e′ : Stored κs) → plane-or.Post κs a r e → plane-or.Post κs a r′ e′ → (r ≡ r′) × (left κs e ≡ left κs e′)
+  plane-or-determined r r′ e e′ p q = (store-injective r r′ (answer-of p q), next-of p q)
