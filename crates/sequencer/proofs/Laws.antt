@@ -24,13 +24,15 @@ use Rattle.machine.specs.declared.answer.DoneAnswer.the-variants.{Done, Refused
 use Rattle.machine.specs.Answers.{refusalNumber, said, one, outcome, doneSaid}
 use Rattle.machine.specs.Deeds.{byte, laid, remade, memoryAfter, valueOf}
 use Rattle.machine.specs.Sequencer.{selectsSeq, divisorOf, clockOf, fitsSeq, seqOddEven, isSeqOddEven, chainFour, inMask, storedAt, gcReadAt}
-use Rattle.machine.specs.Calls.{refuse, planeNumber, storeOne, seqGcReadU8, directPlan}
+use Rattle.machine.specs.Calls.{refuse, planeNumber, storeOne, directPlan}
 use Rattle.machine.specs.Step.{directStep}
 use Rattle.machine.proofs.Laws.{both, refuse-0, AtPlane, plane-accepted, refusal-some, perform-done, perform-refused, stored-none}
 use Rattle.vram.proofs.Laws.{store-one, as-told}
 use Rattle.sequencer.specs.declared.direct.PlaneStore.{PlaneStore}
 use Rattle.sequencer.specs.declared.direct.PlaneStore.the-variants.{Set, And, Or}
-use Rattle.sequencer.specs.Direct.{storeCall, storeBit}
+use Rattle.sequencer.specs.declared.direct.PlaneRead.{PlaneRead}
+use Rattle.sequencer.specs.declared.direct.PlaneRead.the-variants.{Cpu, Gc}
+use Rattle.sequencer.specs.Direct.{readCall, readAt, storeCall, storeBit}
 use Rattle.sequencer.specs.Mask.{maskOf}
 
 -- ---- bits by tests
@@ -93,12 +95,15 @@ gc-read-at-le s o = go (isSeqOddEven (seqOddEven s))
     go true = omega arith
     go false = stored-at-le s o
 
-module _ (s : Sequencer) (o : ℕ) {at n : ℕ} where
-  pub stored-at-lt : at ≡ storedAt s o → o < n → at < n
-  stored-at-lt e h = omega (arith, stored-at-le s o)
+read-at-le : (k : PlaneRead) (s : Sequencer) (o : ℕ) → readAt k s o ≤ o
+read-at-le Cpu s o = omega arith
+read-at-le Gc s o = gc-read-at-le s o
 
-  pub gc-read-at-lt : at ≡ gcReadAt s o → o < n → at < n
-  gc-read-at-lt e h = omega (arith, gc-read-at-le s o)
+pub stored-at-lt : (s : Sequencer) (o : ℕ) {at n : ℕ} → at ≡ storedAt s o → o < n → at < n
+stored-at-lt s o e h = omega (arith, stored-at-le s o)
+
+pub read-at-lt : (k : PlaneRead) (s : Sequencer) (o : ℕ) {at n : ℕ} → at ≡ readAt k s o → o < n → at < n
+read-at-lt k s o e h = omega (arith, read-at-le k s o)
 
 -- ---- the mask
 
@@ -178,15 +183,17 @@ accepted s m p o j e =
     let a = refuse-0 (fitsSeq s) 5 (planeNumber (shape m) p o) (sym (as-told e j)) in
     (a .0, plane-accepted m p o (a .1))
 
--- `gc_read_u8`, by what its judge answered
+-- a read by plane, whatever its kind, by what its judge answered
 module _ (s : Sequencer) (m : Memory) (p o : ℕ) (a : Bool) {d : DoneAnswer} (j : Judged s m p o d) where
-  pub gc-read-refused : (r : Refusal) → d ≡ Refused r → outcome (said (refusalNumber r) (one 0)) m ≡ directStep s m (seqGcReadU8 p o a)
+  pub read-refused : (k : PlaneRead) (r : Refusal) → d ≡ Refused r → outcome (said (refusalNumber r) (one 0)) m ≡ directStep s m (readCall k p o a)
   unfolding directStep directPlan valueOf
-  gc-read-refused r e = perform-refused _ m _ _ (refusal-some r) (as-told e j) refl
+  read-refused Cpu r e = perform-refused _ m _ _ (refusal-some r) (as-told e j) refl
+  read-refused Gc r e = perform-refused _ m _ _ (refusal-some r) (as-told e j) refl
 
-  pub gc-read-done : (at x : ℕ) → d ≡ Done → at ≡ gcReadAt s o → x ≡ byte m p at → outcome (said 0 (one x)) m ≡ directStep s m (seqGcReadU8 p o a)
+  pub read-done : (k : PlaneRead) (at x : ℕ) → d ≡ Done → at ≡ readAt k s o → x ≡ byte m p at → outcome (said 0 (one x)) m ≡ directStep s m (readCall k p o a)
   unfolding directStep directPlan valueOf memoryAfter
-  gc-read-done at x e f g = perform-done _ m m _ (as-told e j) refl (ap one (g ∙ ap (byte m p) f))
+  read-done Cpu at x e f g = perform-done _ m m _ (as-told e j) refl (ap one (g ∙ ap (byte m p) f))
+  read-done Gc at x e f g = perform-done _ m m _ (as-told e j) refl (ap one (g ∙ ap (byte m p) f))
 
 store-bit-lt : (k : PlaneStore) (a b : ℕ) → a < 2 → b < 2 → storeBit k a b < 2
 store-bit-lt Set a b h l = h
@@ -207,23 +214,16 @@ module _ (k : PlaneStore) (s : Sequencer) (m : Memory) (p o : ℕ) (a : Bool) (x
   store-stopped w = stored-none (storedAt s o) p (inMask s o a) _ m h w
 
 -- the three direct stores, by what their judge answered
-module _ (k : PlaneStore) (s : Sequencer) (m : Memory) (p o : ℕ) (a : Bool) (x : ℕ) {d : DoneAnswer} (j : Judged s m p o d) where
-  pub store-refused : (r : Refusal) → d ≡ Refused r → outcome (said (refusalNumber r) (one 0)) m ≡ directStep s m (storeCall k p o a x)
+module _ (s : Sequencer) (m : Memory) (p o : ℕ) (a : Bool) (x : ℕ) {d : DoneAnswer} (j : Judged s m p o d) where
+  pub store-refused : (k : PlaneStore) (r : Refusal) → d ≡ Refused r → outcome (said (refusalNumber r) (one 0)) m ≡ directStep s m (storeCall k p o a x)
   unfolding directStep directPlan valueOf
-  store-refused r e = go k
-    where
-      go : (k : PlaneStore) → outcome (said (refusalNumber r) (one 0)) m ≡ directStep s m (storeCall k p o a x)
-      go Set = perform-refused _ m _ _ (refusal-some r) (as-told e j) refl
-      go And = perform-refused _ m _ _ (refusal-some r) (as-told e j) refl
-      go Or = perform-refused _ m _ _ (refusal-some r) (as-told e j) refl
+  store-refused Set r e = perform-refused _ m _ _ (refusal-some r) (as-told e j) refl
+  store-refused And r e = perform-refused _ m _ _ (refusal-some r) (as-told e j) refl
+  store-refused Or r e = perform-refused _ m _ _ (refusal-some r) (as-told e j) refl
 
-  pub store-done : (m′ : Memory) → d ≡ Done → m′ ≡ memoryAfter (storeOne (storeBit k) p (storedAt s o) (inMask s o a) x) [] m
+  pub store-done : (k : PlaneStore) (m′ : Memory) → d ≡ Done → m′ ≡ memoryAfter (storeOne (storeBit k) p (storedAt s o) (inMask s o a) x) [] m
       → outcome (said 0 (one 0)) m′ ≡ directStep s m (storeCall k p o a x)
   unfolding directStep directPlan valueOf
-  store-done m′ e g = go k g
-    where
-      go : (k : PlaneStore) → m′ ≡ memoryAfter (storeOne (storeBit k) p (storedAt s o) (inMask s o a) x) [] m
-          → outcome (said 0 (one 0)) m′ ≡ directStep s m (storeCall k p o a x)
-      go Set g = perform-done _ m m′ _ (as-told e j) g refl
-      go And g = perform-done _ m m′ _ (as-told e j) g refl
-      go Or g = perform-done _ m m′ _ (as-told e j) g refl
+  store-done Set m′ e g = perform-done _ m m′ _ (as-told e j) g refl
+  store-done And m′ e g = perform-done _ m m′ _ (as-told e j) g refl
+  store-done Or m′ e g = perform-done _ m m′ _ (as-told e j) g refl

@@ -11,7 +11,7 @@ ghost use Rattle.machine.specs.Deeds.{memoryAfter};
 ghost use Rattle.machine.specs.Sequencer.{fitsSeq, inMask, storedAt};
 ghost use Rattle.machine.specs.Calls.{refuse, planeNumber, storeOne, seqCpuReadU8, seqGcReadU8, seqPeekU8, seqReadLinear, seqSerializeLinear, seqPlaneSet, seqPlaneAnd, seqPlaneOr};
 ghost use Rattle.machine.specs.Step.{directStep};
-ghost use Rattle.sequencer.specs.Direct.{storeBit, storeCall};
+ghost use Rattle.sequencer.specs.Direct.{readAt, readCall, storeBit, storeCall};
 use crate::inner;
 use machine::ByteAnswer;
 use machine::DoneAnswer;
@@ -40,6 +40,45 @@ fn judge_plane(
     vram::inner::judge_plane(p0, p1, p2, p3, picture, plane, offset)
 }
 
+// How a read by plane takes its offset: as it stands, or where chain-four leads.
+enum PlaneRead {
+    Cpu,
+    Gc,
+}
+
+fn read_at(seq: Sequencer, offset: usize, kind: PlaneRead) -> usize
+    ensures { λ r. ⌜ r ≡ readAt kind seq offset ⌝ }
+{
+    match kind {
+        PlaneRead::Cpu => offset,
+        PlaneRead::Gc => inner::gc_read_at(seq, offset),
+    }
+}
+
+// The reads by plane in one: judged at the offset as it stands, then read where their kind leads.
+fn plane_read(
+    seq: Sequencer,
+    p0: &[u8],
+    p1: &[u8],
+    p2: &[u8],
+    p3: &[u8],
+    picture: &[u8],
+    plane: usize,
+    offset: PlaneOffset,
+    a0: bool,
+    kind: PlaneRead,
+) -> ByteAnswer
+    ensures { λ r. ⌜ outcome (byteSaid r) (before p0 p1 p2 p3 picture) ≡ directStep seq (before p0 p1 p2 p3 picture) (readCall kind plane (offset .0) a0) ⌝ }
+{
+    match judge_plane(seq, p0, p1, p2, p3, picture, plane, offset) {
+        DoneAnswer::Refused(x) => ByteAnswer::Refused(x),
+        DoneAnswer::Done => {
+            let at = read_at(seq, offset.0, kind);
+            ByteAnswer::Done(vram::inner::byte(p0, p1, p2, p3, picture, plane, at))
+        }
+    }
+}
+
 // A plane's byte at the offset as it stands, chain-four or not.
 pub fn cpu_read_u8(
     seq: Sequencer,
@@ -54,13 +93,21 @@ pub fn cpu_read_u8(
 ) -> ByteAnswer
     ensures { λ r. ⌜ outcome (byteSaid r) (before p0 p1 p2 p3 picture) ≡ directStep seq (before p0 p1 p2 p3 picture) (seqCpuReadU8 plane (offset .0) a0) ⌝ }
 {
-    if !inner::fits(seq) {
-        return ByteAnswer::Refused(Refusal::State);
-    }
-    vram::read_u8(p0, p1, p2, p3, picture, plane, offset)
+    plane_read(
+        seq,
+        p0,
+        p1,
+        p2,
+        p3,
+        picture,
+        plane,
+        offset,
+        a0,
+        PlaneRead::Cpu,
+    )
 }
 
-// A plane's byte as the shows read it: sequential with chain-four set reads at the offset with its low two bits clear.
+// A plane's byte; sequential with chain-four set reads at the offset with its low two bits clear.
 pub fn gc_read_u8(
     seq: Sequencer,
     p0: &[u8],
@@ -74,13 +121,18 @@ pub fn gc_read_u8(
 ) -> ByteAnswer
     ensures { λ r. ⌜ outcome (byteSaid r) (before p0 p1 p2 p3 picture) ≡ directStep seq (before p0 p1 p2 p3 picture) (seqGcReadU8 plane (offset .0) a0) ⌝ }
 {
-    match judge_plane(seq, p0, p1, p2, p3, picture, plane, offset) {
-        DoneAnswer::Refused(x) => ByteAnswer::Refused(x),
-        DoneAnswer::Done => {
-            let at = inner::gc_read_at(seq, offset.0);
-            ByteAnswer::Done(vram::inner::byte(p0, p1, p2, p3, picture, plane, at))
-        }
-    }
+    plane_read(
+        seq,
+        p0,
+        p1,
+        p2,
+        p3,
+        picture,
+        plane,
+        offset,
+        a0,
+        PlaneRead::Gc,
+    )
 }
 
 // A plane's byte, as `cpu_read_u8` reads it.

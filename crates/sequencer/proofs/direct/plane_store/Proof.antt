@@ -41,8 +41,8 @@ returns : tie.Need-returns
 returns c =
     let start = c .before .before .before .before .before .before .before .before .before .before .before .before .before .before in
     let m = mem (start .args .p0 .now) (start .args .p1 .now) (start .args .p2 .now) (start .args .p3 .now) (start .args .picture .now) in
-    store-refused (start .args .kind) (start .args .seq) m (start .args .plane) (start .args .offset .0) (start .args .a0) (start .args .byte)
-    (c .before .before .before .judge-plane .ensures) _ (c .before .x .given .1)
+    store-refused (start .args .seq) m (start .args .plane) (start .args .offset .0) (start .args .a0) (start .args .byte) (c .before .before .before .judge-plane .ensures)
+    (start .args .kind) _ (c .before .x .given .1)
 
 same-length-6 : tie.Need-same-length-6
 same-length-6 c = search needs
@@ -63,8 +63,8 @@ returns-2 : tie.Need-returns-2
 returns-2 c =
     let start = c .before .before .before .before .before .before .before .before .before .before .before .before .before .before .before .before .before .before .before .before .before .before .before .before .before .before .before .before .before in
     let m = mem (start .args .p0 .now) (start .args .p1 .now) (start .args .p2 .now) (start .args .p3 .now) (start .args .picture .now) in
-    store-done (start .args .kind) (start .args .seq) m (start .args .plane) (start .args .offset .0) (start .args .a0) (start .args .byte)
-    (c .before .before .before .before .before .before .before .before .before .before .before .before .before .before .before .before .before .before .judge-plane .ensures) _ (c .before .before .before .before .before .before .before .before .before .before .before .before .before .before .before .before .enum-told .given .1) (c .before .before .before .before .before .before .before .before .before .before .store-masked .ensures)
+    store-done (start .args .seq) m (start .args .plane) (start .args .offset .0) (start .args .a0) (start .args .byte) (c .before .before .before .before .before .before .before .before .before .before .before .before .before .before .before .before .before .before .judge-plane .ensures)
+    (start .args .kind) _ (c .before .before .before .before .before .before .before .before .before .before .before .before .before .before .before .before .enum-told .given .1) (c .before .before .before .before .before .before .before .before .before .before .store-masked .ensures)
 
 pub plane-store-spec : {M : Type 1} → statement M
 plane-store-spec =
