@@ -36,13 +36,15 @@ pub fn mask(seq: Sequencer, offset: usize, a0: bool) -> u8
     requires { ⌜ fitsSeq seq ≡ true ⌝ }
     ensures { λ r. ⌜ r ≡ maskOf seq offset a0 ⌝ }
 {
+    let map_mask = seq.map_mask;
+    let shift = a0 as u8;
     if seq.chain_four() {
         return 1 << (offset & 0x03);
     }
     let odd_even = seq.odd_even();
     match odd_even {
-        OddEvenMode::Sequential => seq.map_mask,
-        OddEvenMode::OddEven => seq.map_mask & (ODD_EVEN_MASK << (a0 as u8)),
+        OddEvenMode::Sequential => map_mask,
+        OddEvenMode::OddEven => map_mask & (ODD_EVEN_MASK << shift),
     }
 }
 

@@ -3,10 +3,14 @@ mod direct;
 pub mod inner;
 mod registers;
 
+pub use direct::cpu_read_u8;
 pub use direct::gc_read_u8;
+pub use direct::peek_u8;
 pub use direct::plane_and;
 pub use direct::plane_or;
 pub use direct::plane_set;
+pub use direct::read_linear;
+pub use direct::serialize_linear;
 pub use registers::clock;
 pub use registers::poll_clock_change;
 pub use registers::read_address;

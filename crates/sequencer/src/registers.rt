@@ -140,39 +140,24 @@ pub fn read_data(seq: Sequencer) -> ByteAnswer
 }
 
 // A clock divisor and a character clock.
-struct Clocks {
-    divisor: u32,
-    character: u32,
-}
+struct Clocks(u32, u32);
 
 // Clocking Mode: bit 0 clear is nine dots, bit 3 set halves the clock.
 fn clocking(mode: u8) -> Clocks
-    ensures { λ r. ⌜ (r .divisor ≡ divisorOf mode) × (r .character ≡ clockOf mode) ⌝ }
+    ensures { λ r. ⌜ (r .0 ≡ divisorOf mode) × (r .1 ≡ clockOf mode) ⌝ }
 {
     let eight_dots = mode & 1 == 1;
     let half_clock = (mode >> 3) & 1 == 1;
     if half_clock {
         if eight_dots {
-            return Clocks {
-                divisor: 2,
-                character: 16,
-            };
+            return Clocks(2, 16);
         }
-        return Clocks {
-            divisor: 2,
-            character: 18,
-        };
+        return Clocks(2, 18);
     }
     if eight_dots {
-        return Clocks {
-            divisor: 1,
-            character: 8,
-        };
+        return Clocks(1, 8);
     }
-    Clocks {
-        divisor: 1,
-        character: 9,
-    }
+    Clocks(1, 9)
 }
 
 // The record after a data byte went to the register that stands selected.
@@ -189,8 +174,8 @@ fn written(mut seq: Sequencer, byte: u8) -> Sequencer
             let clocks = clocking(data);
             seq.clocking_mode = data;
             seq.clock_change_pending = true;
-            seq.clock_divisor = clocks.divisor;
-            seq.char_clock = clocks.character;
+            seq.clock_divisor = clocks.0;
+            seq.char_clock = clocks.1;
         }
         SequencerRegister::MapMask => {
             seq.map_mask = data & 0x0F;

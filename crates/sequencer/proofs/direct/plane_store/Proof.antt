@@ -1,7 +1,7 @@
 -- `plane_store` judges and then stores: the machine's direct store of each kind, by `store-refused` and `store-done`.
 use borrow.Author.Needs.{needs}
 use Rattle.machine.specs.Memory.{mem}
-use Rattle.sequencer.proofs.Laws.{as-told, accepted, store-refused, store-done}
+use Rattle.sequencer.proofs.Laws.{accepted, store-refused, store-done}
 use Rattle.sequencer.proofs.direct.plane_store.Statement.{statement}
 use Rattle.sequencer.proofs.direct.plane_store.Tie as tie
 
@@ -17,7 +17,8 @@ enum-told c = search needs
 store-masked-requires : tie.Need-store-masked-requires
 store-masked-requires c κs =
     let start = c .before .before .before .before .before .before .before .before .before .before .before .before .before .before .before .before .before .before in
-    let a = accepted (start .args .seq) (mem (start .args .p0 .now) (start .args .p1 .now) (start .args .p2 .now) (start .args .p3 .now) (start .args .picture .now)) (start .args .plane) (start .args .offset .0) (as-told (c .before .before .before .before .before .enum-told .given .1) (c .before .before .before .before .before .before .before .judge-plane .ensures)) in
+    let m = mem (start .args .p0 .now) (start .args .p1 .now) (start .args .p2 .now) (start .args .p3 .now) (start .args .picture .now) in
+    let a = accepted (start .args .seq) m (start .args .plane) (start .args .offset .0) (c .before .before .before .before .before .before .before .judge-plane .ensures) (c .before .before .before .before .before .enum-told .given .1) in
     let h = a .1 in
     (h .shaped, (h .offset, (h .plane, a .0)))
 
@@ -39,7 +40,9 @@ same-length-5 c = search needs
 returns : tie.Need-returns
 returns c =
     let start = c .before .before .before .before .before .before .before .before .before .before .before .before .before .before in
-    store-refused (start .args .kind) _ (mem (start .args .p0 .now) (start .args .p1 .now) (start .args .p2 .now) (start .args .p3 .now) (start .args .picture .now)) (mem (start .args .p0 .now) (start .args .p1 .now) (start .args .p2 .now) (start .args .p3 .now) (start .args .picture .now)) _ _ _ _ (c .before .x .given .0 .0) (as-told (c .before .x .given .1) (c .before .before .before .judge-plane .ensures))
+    let m = mem (start .args .p0 .now) (start .args .p1 .now) (start .args .p2 .now) (start .args .p3 .now) (start .args .picture .now) in
+    store-refused (start .args .seq) m (start .args .plane) (start .args .offset .0) (start .args .a0) (start .args .byte) (c .before .before .before .judge-plane .ensures)
+    (start .args .kind) _ (c .before .x .given .1)
 
 same-length-6 : tie.Need-same-length-6
 same-length-6 c = search needs
@@ -58,7 +61,10 @@ same-length-10 c = search needs
 
 returns-2 : tie.Need-returns-2
 returns-2 c =
-    store-done (c .before .before .before .before .before .before .before .before .before .before .before .before .before .before .before .before .before .before .before .before .before .before .before .before .before .before .before .before .before .args .kind) _ _ _ _ _ _ _ (as-told (c .before .before .before .before .before .before .before .before .before .before .before .before .before .before .before .before .enum-told .given .1) (c .before .before .before .before .before .before .before .before .before .before .before .before .before .before .before .before .before .before .judge-plane .ensures)) (c .before .before .before .before .before .before .before .before .before .before .store-masked .ensures)
+    let start = c .before .before .before .before .before .before .before .before .before .before .before .before .before .before .before .before .before .before .before .before .before .before .before .before .before .before .before .before .before in
+    let m = mem (start .args .p0 .now) (start .args .p1 .now) (start .args .p2 .now) (start .args .p3 .now) (start .args .picture .now) in
+    store-done (start .args .seq) m (start .args .plane) (start .args .offset .0) (start .args .a0) (start .args .byte) (c .before .before .before .before .before .before .before .before .before .before .before .before .before .before .before .before .before .before .judge-plane .ensures)
+    (start .args .kind) _ (c .before .before .before .before .before .before .before .before .before .before .before .before .before .before .before .before .enum-told .given .1) (c .before .before .before .before .before .before .before .before .before .before .store-masked .ensures)
 
 pub plane-store-spec : {M : Type 1} → statement M
 plane-store-spec =

@@ -1,9 +1,7 @@
 -- `store_masked` stores where the mask has the plane, by `store-let`, and nothing where it does not, by `store-stopped`.
-use native.Mathlib.Omega.{arith}
-use mathlib.Core.Path.{_∙_}
 use borrow.Author.Needs.{needs}
 use Rattle.machine.specs.Memory.{mem}
-use Rattle.sequencer.proofs.Laws.{stored-at-le, mask-has, mask-lacks, store-let, store-stopped}
+use Rattle.sequencer.proofs.Laws.{stored-at-lt, mask-has, mask-lacks, store-let, store-stopped}
 use Rattle.sequencer.proofs.direct.store_masked.Statement.{statement}
 use Rattle.sequencer.proofs.direct.store_masked.Tie as tie
 
@@ -22,7 +20,7 @@ stored-at-requires c κs = search needs
 byte-requires : tie.Need-byte-requires
 byte-requires c κs =
     let start = c .before .before .before .before .before .before .before .before .before .before .before .before .before in
-    (start .pre .0, (omega (arith, c .before .before .before .before .before .stored-at .ensures, stored-at-le (start .args .seq) (start .args .offset), start .pre .1 .0), start .pre .1 .1 .0))
+    (start .pre .0, (stored-at-lt _ _ (c .before .before .before .before .before .stored-at .ensures) (start .pre .1 .0), start .pre .1 .1 .0))
 
 combined-requires : tie.Need-combined-requires
 combined-requires c κs = search needs
@@ -30,7 +28,7 @@ combined-requires c κs = search needs
 store-requires : tie.Need-store-requires
 store-requires c κs =
     let start = c .before .before .before .before .before .before .before .before .before .before .before .before .before .before .before .before .before .before .before .before in
-    (start .pre .0, (omega (arith, c .before .before .before .before .before .before .before .before .before .before .before .before .stored-at .ensures, stored-at-le (start .args .seq) (start .args .offset), start .pre .1 .0), start .pre .1 .1 .0))
+    (start .pre .0, (stored-at-lt _ _ (c .before .before .before .before .before .before .before .before .before .before .before .before .stored-at .ensures) (start .pre .1 .0), start .pre .1 .1 .0))
 
 same-length : tie.Need-same-length
 same-length c = search needs
@@ -50,12 +48,20 @@ same-length-5 c = search needs
 returns : tie.Need-returns
 returns c =
     let start = c .before .before .before .before .before .before .before .before .before .before .before .before .before .before .before .before .before .before .before .before .before .before .before .before .before .before .before .before .before .before .before in
-    c .before .before .before .before .before .before .before .before .before .before .store .ensures ∙ store-let (start .args .kind) (start .args .seq) (mem (start .args .p0 .now) (start .args .p1 .now) (start .args .p2 .now) (start .args .p3 .now) (start .args .picture .now)) (start .args .plane) (start .args .offset) (start .args .a0) (start .args .byte) (start .pre .1 .1 .0) _ _ _ (mask-has _ _ _ _ _ (c .before .before .before .before .before .before .before .before .before .before .before .before .before .before .before .before .before .before .before .before .before .before .before .before .before .mask .ensures) (start .pre .1 .1 .0) (c .before .before .before .before .before .before .before .before .before .before .before .before .before .before .before .before .before .before .before .before .before .before .before .before .if1 .taken)) (c .before .before .before .before .before .before .before .before .before .before .before .before .before .before .before .before .before .before .before .before .before .before .before .stored-at .ensures) (c .before .before .before .before .before .before .before .before .before .before .before .before .before .before .before .before .before .byte .ensures) (c .before .before .before .before .before .before .before .before .before .before .before .before .before .before .before .before .combined .ensures)
+    let m = mem (start .args .p0 .now) (start .args .p1 .now) (start .args .p2 .now) (start .args .p3 .now) (start .args .picture .now) in
+    store-let (start .args .kind) (start .args .seq) m (start .args .plane) (start .args .offset) (start .args .a0) (start .args .byte) (start .pre .1 .1 .0) _ _ _
+    (mask-has _ _ _ _ _ (c .before .before .before .before .before .before .before .before .before .before .before .before .before .before .before .before .before .before .before .before .before .before .before .before .before .mask .ensures) (start .pre .1 .1 .0) (c .before .before .before .before .before .before .before .before .before .before .before .before .before .before .before .before .before .before .before .before .before .before .before .before .if1 .taken))
+    (c .before .before .before .before .before .before .before .before .before .before .before .before .before .before .before .before .before .before .before .before .before .before .before .stored-at .ensures)
+    (c .before .before .before .before .before .before .before .before .before .before .before .before .before .before .before .before .before .byte .ensures)
+    (c .before .before .before .before .before .before .before .before .before .before .before .before .before .before .before .before .combined .ensures)
+    (c .before .before .before .before .before .before .before .before .before .before .store .ensures)
 
 returns-2 : tie.Need-returns-2
 returns-2 c =
     let start = c .before .before .before .before .before .before .before in
-    store-stopped (start .args .kind) (start .args .seq) (mem (start .args .p0 .now) (start .args .p1 .now) (start .args .p2 .now) (start .args .p3 .now) (start .args .picture .now)) (start .args .plane) (start .args .offset) (start .args .a0) (start .args .byte) (start .pre .1 .1 .0) (mask-lacks _ _ _ _ _ (c .before .mask .ensures) (start .pre .1 .1 .0) (c .if1 .left))
+    let m = mem (start .args .p0 .now) (start .args .p1 .now) (start .args .p2 .now) (start .args .p3 .now) (start .args .picture .now) in
+    store-stopped (start .args .kind) (start .args .seq) m (start .args .plane) (start .args .offset) (start .args .a0) (start .args .byte) (start .pre .1 .1 .0)
+    (mask-lacks _ _ _ _ _ (c .before .mask .ensures) (start .pre .1 .1 .0) (c .if1 .left))
 
 pub store-masked-spec : {M : Type 1} → statement M
 store-masked-spec =

@@ -7,6 +7,9 @@ use Rattle.sequencer.proofs.Laws.{mask-chained, mask-sequential, mask-o
 use Rattle.sequencer.proofs.inner.mask.Statement.{statement}
 use Rattle.sequencer.proofs.inner.mask.Tie as tie
 
+cast-shift : tie.Need-cast-shift
+cast-shift c = search needs
+
 chain-four-requires : tie.Need-chain-four-requires
 chain-four-requires c κs = search needs
 
@@ -28,9 +31,6 @@ enum-told c = search needs
 enum-told-2 : tie.Need-enum-told-2
 enum-told-2 c = search needs
 
-cast-result-2 : tie.Need-cast-result-2
-cast-result-2 c = search needs
-
 shl-result-2 : tie.Need-shl-result-2
 shl-result-2 c = a0-lt (c .before .before .before .before .before .args .a0)
 
@@ -40,12 +40,13 @@ returns-2 c =
 
 returns-3 : tie.Need-returns-3
 returns-3 c =
-    mask-odd-even _ _ _ (c .before .before .before .before .before .before .pre) (sym (c .before .before .before .before .before .chain-four .ensures) ∙ c .before .before .before .before .if1 .left) (sym (c .before .before .before .odd-even .ensures) ∙ c .before .enum-told2 .given .1)
+    mask-odd-even _ _ _ (c .before .before .before .before .before .pre) (sym (c .before .before .before .before .chain-four .ensures) ∙ c .before .before .before .if1 .left) (sym (c .before .before .odd-even .ensures) ∙ c .enum-told2 .given .1)
 
 pub mask-spec : {M : Type 1} → statement M
 mask-spec =
     tie.close
     (tie.spec
+    cast-shift
     chain-four-requires
     cast-result
     shl-result
@@ -53,7 +54,6 @@ mask-spec =
     odd-even-requires
     enum-told
     enum-told-2
-    cast-result-2
     shl-result-2
     returns-2
     returns-3)
