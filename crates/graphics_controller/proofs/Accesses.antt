@@ -21,14 +21,14 @@ use Rattle.machine.specs.declared.graphics.ReadMode.{ReadMode}
 use Rattle.machine.specs.declared.graphics.ReadMode.the-variants.{ReadSelectedPlane, ReadComparedPlanes}
 use Rattle.machine.specs.declared.sequencer.Sequencer.{Sequencer}
 use Rattle.machine.specs.Memory.{Memory, Shape, shape, sound}
-use Rattle.machine.specs.Answers.{refusalNumber, Value, one, two, blank, said, part, Outcome, outcome, answered, mappedSaid}
+use Rattle.machine.specs.Answers.{refusalNumber, Value, one, two, blank, Said, said, part, Outcome, outcome, answered, mappedSaid}
 use Rattle.machine.specs.Graphics.{fitsGc, memoryMap, oddEven, isOddEven, readMode, writeMode, shiftMode, gcOf}
 use Rattle.machine.specs.Sequencer.{fitsSeq}
 use Rattle.machine.specs.Address.{inWindow, a0, offset}
 use Rattle.machine.specs.DataPath.{selectedPlane}
 use Rattle.machine.specs.Deeds.{byte, latch, loaded, latchesAfter, memoryAfter, valueOf}
 use Rattle.machine.specs.Calls.{refuse, fitsBoth, accessNumber, shows, showNumber, CpuPlan, counted, readCounter, writeCounter, readReply, writeDeed, cpuPlan, cpuRead, cpuPeek, cpuWrite, serialize}
-use Rattle.machine.specs.Step.{device, cpuPerform, cpuStep}
+use Rattle.machine.specs.Step.{device, lifted, cpuPerform, cpuStep}
 use Rattle.machine.proofs.Laws.{both, refuse-0, sound-shaped, AtOffset, answered-done, answered-refused}
 use Rattle.graphics_controller.specs.Reads.{readByte}
 
@@ -216,14 +216,16 @@ module _ (g : GraphicsController) (s : Sequencer) (m : Memory) (x : ℕ) (page :
   write-latches Invalid o v = refl
 
   -- one counter raised, and the mode's deed done
-  pub write-done : (v o : ℕ) (w : WriteMode) (c : GraphicsControllerStats) (m′ : Memory) → 0 ≡ number → o ≡ at → w ≡ writeMode (g .registers)
-      → c ≡ counted (writeCounter w) (g .stats) → m′ ≡ memoryAfter (writeDeed w (g .registers) s x o v) (g .latches) m
-      → outcome (said 0 (one 0)) (device (gcOf (g .registers) c (g .latches)) m′) ≡ cpuStep g s m (cpuWrite x page v)
+  pub write-done : (v o : ℕ) (m′ : Memory) (a : Said) (g′ : GraphicsController) → 0 ≡ number → o ≡ at
+      → outcome a g′ ≡ outcome (said 0 (one 0)) (gcOf (g .registers) (counted (writeCounter (writeMode (g .registers))) (g .stats)) (g .latches))
+      → m′ ≡ memoryAfter (writeDeed (writeMode (g .registers)) (g .registers) s x o v) (g .latches) m
+      → outcome a (device g′ m′) ≡ cpuStep g s m (cpuWrite x page v)
   unfolding cpuStep cpuPlan valueOf
-  write-done v o w c m′ e eo ew ec em =
-      cpu-done (cpuPlan (g .registers) s (shape m) (cpuWrite x page v)) g m (gcOf (g .registers) c (g .latches)) m′ (one 0) e
-      (rw (ec, ew) (ap (gcOf (g .registers) (counted (writeCounter (writeMode (g .registers))) (g .stats))) (write-latches (writeMode (g .registers)) at v)))
-      (rw (← ew, ← eo) em) refl
+  write-done v o m′ a g′ e eo ea em =
+      ap (lifted (λ (g : GraphicsController). device g m′)) ea
+      ∙ cpu-done (cpuPlan (g .registers) s (shape m) (cpuWrite x page v)) g m _ m′ (one 0) e
+      (ap (gcOf (g .registers) (counted (writeCounter (writeMode (g .registers))) (g .stats))) (write-latches (writeMode (g .registers)) at v))
+      (rw (← eo) em) refl
 
 module _ (g : GraphicsController) (s : Sequencer) (m : Memory) (o : ℕ) where
   pub show-refused : (k : ℕ) → 0 < k → k ≡ showNumber (g .registers) s (shape m) o → outcome (said k (part [])) (device g m) ≡ cpuStep g s m (serialize o)

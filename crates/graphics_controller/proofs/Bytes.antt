@@ -1,34 +1,28 @@
 -- The data path on whole bytes is the machine's rule bit by bit: rotate, logic step, and a byte made of one plane's bits.
-use Prim.Native.Nat.{ℕ, zero, suc, _+_, _-_, _*_, _/_, _%_, _^_, _≤_, _<_, min, max}
-use mathlib.Core.Path.{_≡_, refl, sym, ap, ap₂, _∙_}
+use Prim.Native.Nat.{ℕ, _+_, _-_, _*_, _/_, _%_, _^_, _<_, min, max}
+use mathlib.Core.Path.{_≡_, refl, ap, _∙_}
 use mathlib.Core.Bool.{Bool, true, false}
-use mathlib.Core.List.{List, [], _∷_}
-use native.Mathlib.Omega.{arith}
-use lib.ListN.{length, getD}
+use mathlib.Core.List.{[], _∷_}
 use lib.Bits.{bitAnd, bitOr, bitXor, differ}
-use mir.Syntax.{w8}
-use mir.Val.{Val}
-use denote.Plain.{UInt}
-use denote.Array.{Array, each}
-use denote.Shadow.{shadow}
-use denote.Laws.{Is}
 use Rattle.bits.specs.Bit.{bit, ofBits, byteOf, isOne, pick}
-use Rattle.bits.proofs.Laws.{bit-lt, bit-of, of-bit, of-ext, is-of}
+use Rattle.bits.proofs.Laws.{bit-lt, bit-of, of-ext, is-of}
 use Rattle.bits.proofs.Bitwise.{bitwise, bytes, bit-spread}
 use Rattle.bits.proofs.Decide.{agree2, same3}
 use Rattle.machine.specs.declared.graphics.LogicFunction.{LogicFunction}
 use Rattle.machine.specs.declared.graphics.LogicFunction.the-variants.{Unmodified, And, Or, Xor}
 use Rattle.machine.specs.declared.graphics.GraphicsRegisters.{GraphicsRegisters}
-use Rattle.machine.specs.declared.graphics.WriteMode.the-variants.{Mode0, Mode1, Mode2, Invalid}
+use Rattle.machine.specs.declared.graphics.WriteMode.the-variants.{Mode0}
 use Rattle.machine.specs.Graphics.{rotateCount}
 use Rattle.machine.specs.DataPath.{rotated, dataBit, combined, masked, writtenBit}
-use Rattle.machine.specs.Deeds.{latch}
-use Rattle.graphics_controller.specs.Writes.{written, four}
 
 -- two shifts and an or turn eight bits: all 2,048 cases are tried
 pub turned : (x n : ℕ) → x < 256 → n < 8 → bitOr (x / 2 ^ n) (x * 2 ^ ((8 - n) % 8) % 256) ≡ byteOf (rotated n x)
 unfolding bit ofBits
 turned = agree2 256 8 (λ x n. bitOr (x / 2 ^ n) (x * 2 ^ ((8 - n) % 8) % 256)) (λ x n. byteOf (rotated n x)) tt
+
+-- by the registers' count
+pub turned-by : (r : GraphicsRegisters) (x n t : ℕ) → t ≡ byteOf (rotated n x) → n ≡ rotateCount r → t ≡ byteOf (rotated (rotateCount r) x)
+turned-by r x n t e f = e ∙ ap (λ (n : ℕ). byteOf (rotated n x)) f
 
 -- ---- the logic step
 
@@ -86,36 +80,14 @@ data-bit false s x l i h = refl
 
 -- ---- the byte of one plane
 
-module _ (r : GraphicsRegisters) (x : ℕ) (l : List ℕ) where
-  -- mode 0, of the byte as it was rotated once
-  pub mode-0-at : (p t : ℕ) → t ≡ byteOf (rotated (rotateCount r) x)
-      → byteOf (λ i. masked r i (pick (isOne (bit p (r .«enable_set_reset»))) (bit p (r .«set_reset»)) (bit i t)) (bit i (latch l p))) ≡ written Mode0 r x l p
-  unfolding written writtenBit dataBit
-  mode-0-at p t e = of-ext 8 (λ i h.
-      ap (λ (b : ℕ). masked r i (pick (isOne (bit p (r .«enable_set_reset»))) (bit p (r .«set_reset»)) b) (bit i (latch l p)))
-      (ap (bit i) e ∙ bit-of 8 (rotated (rotateCount r) x) (λ k. bit-lt ((k + rotateCount r) % 8) x) i h))
+-- mode 0, of the byte as it was rotated
+pub mode-0-is : (r : GraphicsRegisters) (x p l t : ℕ) → t ≡ byteOf (rotated (rotateCount r) x)
+    → byteOf (λ i. masked r i (pick (isOne (bit p (r .«enable_set_reset»))) (bit p (r .«set_reset»)) (bit i t)) (bit i l)) ≡ byteOf (λ i. writtenBit Mode0 r x p i (bit i l))
+unfolding writtenBit dataBit
+mode-0-is r x p l t e = of-ext 8 (λ i h.
+    ap (λ (b : ℕ). masked r i (pick (isOne (bit p (r .«enable_set_reset»))) (bit p (r .«set_reset»)) b) (bit i l))
+    (ap (bit i) e ∙ bit-of 8 (rotated (rotateCount r) x) (λ k. bit-lt ((k + rotateCount r) % 8) x) i h))
 
-pub alike : {a b c d a′ b′ c′ d′ : ℕ} → a ≡ a′ → b ≡ b′ → c ≡ c′ → d ≡ d′ → (a ∷ b ∷ c ∷ d ∷ []) ≡ (a′ ∷ b′ ∷ c′ ∷ d′ ∷ [])
-alike e f g h = cc
-
--- ---- the latches as they are
-
--- four bytes are the four numbers of their bits
-four-bytes : (l : List ℕ) → length l ≡ 4 → ((p : ℕ) → latch l p < 256) → l ≡ four (λ p. byteOf (λ i. bit i (latch l p)))
-four-bytes (a ∷ b ∷ c ∷ d ∷ []) e h = alike (sym (of-bit 8 a (h 0))) (sym (of-bit 8 b (h 1))) (sym (of-bit 8 c (h 2))) (sym (of-bit 8 d (h 3)))
-four-bytes [] e h = absurd (omega arith)
-four-bytes (a ∷ []) e h = absurd (omega arith)
-four-bytes (a ∷ b ∷ []) e h = absurd (omega arith)
-four-bytes (a ∷ b ∷ c ∷ []) e h = absurd (omega arith)
-four-bytes (a ∷ b ∷ c ∷ d ∷ f ∷ l) e h = absurd (omega arith)
-
--- an array's elements are bytes
-owned-bytes : (l : List ℕ) (us : List Val) → shadow (each ℕ (UInt w8 .own) l us) → (p : ℕ) → latch l p < 256
-owned-bytes [] [] s p = omega arith
-owned-bytes [] (u ∷ us) s p = absurd s
-owned-bytes (x ∷ l) [] s p = absurd s
-owned-bytes (x ∷ l) (u ∷ us) s zero = s .0 .1
-owned-bytes (x ∷ l) (u ∷ us) s (suc p) = owned-bytes l us (s .1) p
-
-pub kept-bytes : (l : List ℕ) (vs : List Val) → Is (Array (UInt w8) 4) l vs → l ≡ four (λ p. byteOf (λ i. bit i (latch l p)))
-kept-bytes l vs g = four-bytes l (g .1 .0 .1) (owned-bytes l (g .0) (g .1 .1))
+-- one number for each plane
+pub four-alike : {a b c d a′ b′ c′ d′ : ℕ} → a ≡ a′ → b ≡ b′ → c ≡ c′ → d ≡ d′ → (a ∷ b ∷ c ∷ d ∷ []) ≡ (a′ ∷ b′ ∷ c′ ∷ d′ ∷ [])
+four-alike e f g h = cc

@@ -1,5 +1,6 @@
 pub mod Accesses
 pub mod Bytes
 pub mod Colour
+pub mod Determined
 pub mod Planes
 pub mod Windows

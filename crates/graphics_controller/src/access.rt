@@ -4,10 +4,11 @@ ghost use Prim.Native.Nat.{_<_, _≤_};
 ghost use lib.ListN.{length};
 ghost use Rattle.bits.specs.Bit.{bitOf};
 ghost use Rattle.machine.specs.Memory.{lent, before, after, shape, Shaped};
-ghost use Rattle.machine.specs.Answers.{two, outcome, answered, byteSaid, storeSaid, mappedSaid};
+ghost use Rattle.machine.specs.Answers.{said, one, two, outcome, answered, byteSaid, storeSaid, mappedSaid};
 ghost use Rattle.machine.specs.Address.{a0 as bit0, offset as offsetOf};
+ghost use Rattle.machine.specs.Graphics.{gcOf, writeMode};
 ghost use Rattle.machine.specs.Deeds.{loaded};
-ghost use Rattle.machine.specs.Calls.{accessNumber, cpuRead, cpuPeek, cpuWrite};
+ghost use Rattle.machine.specs.Calls.{accessNumber, counted, writeCounter, cpuRead, cpuPeek, cpuWrite};
 ghost use Rattle.machine.specs.Step.{device, cpuStep};
 ghost use Rattle.graphics_controller.specs.Reads.{readByte};
 use crate::address::locate;
@@ -149,6 +150,24 @@ pub fn cpu_peek_u8(
     }
 }
 
+// The answer of an accepted write: its mode's counter goes up, registers and latches stay.
+fn wrote(gc: GraphicsController) -> CpuStore
+    ensures { λ r. ⌜ outcome (storeSaid (r .answer)) (r .gc) ≡ outcome (said 0 (one 0)) (gcOf (gc .registers) (counted (writeCounter (writeMode (gc .registers))) (gc .stats)) (gc .latches)) ⌝ }
+{
+    let registers = gc.registers;
+    let stats = counted_write(registers.write_mode(), gc.stats);
+    let latches = gc.latches;
+    let next = GraphicsController {
+        registers,
+        stats,
+        latches,
+    };
+    CpuStore {
+        answer: StoreAnswer::Done,
+        gc: next,
+    }
+}
+
 // A write by the processor, through the mode, the latches and the mask.
 pub fn cpu_write_u8(
     gc: GraphicsController,
@@ -164,42 +183,15 @@ pub fn cpu_write_u8(
 ) -> CpuStore
     ensures { λ r. ⌜ outcome (storeSaid (r .answer)) (device (r .gc) (after p0 p1 p2 p3 picture)) ≡ cpuStep gc seq (before p0 p1 p2 p3 picture) (cpuWrite address page byte) ⌝ }
 {
-    let registers = gc.registers;
-    let judged = judge(registers, seq, p0, p1, p2, p3, picture, address, page);
-    match judged {
+    match judge(gc.registers, seq, p0, p1, p2, p3, picture, address, page) {
         MappedAnswer::Refused(x) => CpuStore {
             answer: StoreAnswer::Refused(x),
             gc,
         },
         MappedAnswer::Done(offset, a0) => {
             let at = offset.0;
-            let mode = registers.write_mode();
-            let latches = gc.latches;
-            write_planes(
-                mode,
-                registers,
-                seq,
-                latches,
-                p0,
-                p1,
-                p2,
-                p3,
-                picture,
-                at,
-                a0,
-                address,
-                byte,
-            );
-            let stats = counted_write(mode, gc.stats);
-            let next = GraphicsController {
-                registers,
-                stats,
-                latches,
-            };
-            CpuStore {
-                answer: StoreAnswer::Done,
-                gc: next,
-            }
+            write_planes(gc, seq, p0, p1, p2, p3, picture, at, a0, address, byte);
+            wrote(gc)
         }
     }
 }

@@ -2,7 +2,8 @@
 ghost use mathlib.Core.Path.{_≡_};
 ghost use Prim.Native.Nat.{_<_, _≤_};
 ghost use Rattle.bits.specs.Bit.{bit, byteOf, isOne, pick};
-ghost use Rattle.machine.specs.DataPath.{rotated, combined, masked};
+ghost use Rattle.machine.specs.Graphics.{rotateCount};
+ghost use Rattle.machine.specs.DataPath.{rotated, combined, masked, writtenBit};
 ghost use Rattle.graphics_controller.specs.Writes.{written, four};
 use machine::GraphicsRegisters;
 use machine::LogicFunction;
@@ -50,8 +51,8 @@ fn logic_step(function: LogicFunction, mask: u8, data: u8, latch: u8) -> u8
     }
 }
 
-// Mode 0, one plane: the rotated byte or its Set/Reset bit, and the logic step.
-fn mode_0_byte(registers: GraphicsRegisters, turned: u8, plane: u8, latch: u8) -> u8
+// Mode 0: the rotated byte, or the plane's Set/Reset bit, and the logic step.
+fn mode_0(registers: GraphicsRegisters, turned: u8, plane: u8, latch: u8) -> u8
     requires { ⌜ plane ≤ 3 ⌝ }
     ensures { λ r. ⌜ r ≡ byteOf (λ i. masked registers i (pick (isOne (bit plane (registers .«enable_set_reset»))) (bit plane (registers .«set_reset»)) (bit i turned)) (bit i latch)) ⌝ }
 {
@@ -59,20 +60,8 @@ fn mode_0_byte(registers: GraphicsRegisters, turned: u8, plane: u8, latch: u8) -
     logic_step(registers.function(), registers.bitmask, data, latch)
 }
 
-// The byte is rotated once for all planes.
-fn mode_0(registers: GraphicsRegisters, latches: [u8; 4], byte: u8) -> [u8; 4]
-    ensures { λ r. ⌜ r ≡ four (written WriteMode.Mode0 registers byte latches) ⌝ }
-{
-    let turned = rotate_right_u8(byte, registers.rotate_count());
-    let b0 = mode_0_byte(registers, turned, 0, latches[0]);
-    let b1 = mode_0_byte(registers, turned, 1, latches[1]);
-    let b2 = mode_0_byte(registers, turned, 2, latches[2]);
-    let b3 = mode_0_byte(registers, turned, 3, latches[3]);
-    [b0, b1, b2, b3]
-}
-
-// Mode 2, one plane: its bit of the byte, spread, and the logic step.
-fn mode_2_byte(registers: GraphicsRegisters, byte: u8, plane: u8, latch: u8) -> u8
+// Mode 2: the plane's bit of the byte, spread, and the logic step.
+fn mode_2(registers: GraphicsRegisters, byte: u8, plane: u8, latch: u8) -> u8
     requires { ⌜ plane ≤ 3 ⌝ }
     ensures { λ r. ⌜ r ≡ byteOf (λ i. masked registers i (bit plane byte) (bit i latch)) ⌝ }
 {
@@ -80,24 +69,34 @@ fn mode_2_byte(registers: GraphicsRegisters, byte: u8, plane: u8, latch: u8) -> 
     logic_step(registers.function(), registers.bitmask, data, latch)
 }
 
-fn mode_2(registers: GraphicsRegisters, latches: [u8; 4], byte: u8) -> [u8; 4]
-    ensures { λ r. ⌜ r ≡ four (written WriteMode.Mode2 registers byte latches) ⌝ }
+// The byte that a plane is to have, if it is stored: mode 1 has the latch as it is, and mode 3 stores none.
+fn plane_byte(
+    mode: WriteMode,
+    registers: GraphicsRegisters,
+    turned: u8,
+    byte: u8,
+    plane: u8,
+    latch: u8,
+) -> u8
+    requires { ⌜ (plane ≤ 3) × (turned ≡ byteOf (rotated (rotateCount registers) byte)) ⌝ }
+    ensures { λ r. ⌜ r ≡ byteOf (λ i. writtenBit mode registers byte plane i (bit i latch)) ⌝ }
 {
-    let b0 = mode_2_byte(registers, byte, 0, latches[0]);
-    let b1 = mode_2_byte(registers, byte, 1, latches[1]);
-    let b2 = mode_2_byte(registers, byte, 2, latches[2]);
-    let b3 = mode_2_byte(registers, byte, 3, latches[3]);
-    [b0, b1, b2, b3]
+    match mode {
+        WriteMode::Mode0 => mode_0(registers, turned, plane, latch),
+        WriteMode::Mode1 => latch,
+        WriteMode::Mode2 => mode_2(registers, byte, plane, latch),
+        WriteMode::Invalid => latch,
+    }
 }
 
-// The byte that each plane is to have, if it is stored; modes 1 and 3 have the latches as they are.
+// The four planes' bytes; the byte is rotated once.
 pub fn written(mode: WriteMode, registers: GraphicsRegisters, latches: [u8; 4], byte: u8) -> [u8; 4]
     ensures { λ r. ⌜ r ≡ four (written mode registers byte latches) ⌝ }
 {
-    match mode {
-        WriteMode::Mode0 => mode_0(registers, latches, byte),
-        WriteMode::Mode1 => latches,
-        WriteMode::Mode2 => mode_2(registers, latches, byte),
-        WriteMode::Invalid => latches,
-    }
+    let turned = rotate_right_u8(byte, registers.rotate_count());
+    let b0 = plane_byte(mode, registers, turned, byte, 0, latches[0]);
+    let b1 = plane_byte(mode, registers, turned, byte, 1, latches[1]);
+    let b2 = plane_byte(mode, registers, turned, byte, 2, latches[2]);
+    let b3 = plane_byte(mode, registers, turned, byte, 3, latches[3]);
+    [b0, b1, b2, b3]
 }

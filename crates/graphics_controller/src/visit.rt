@@ -6,6 +6,7 @@ ghost use lib.Dec.{eqb};
 ghost use lib.ListN.{length};
 ghost use Rattle.bits.specs.Bit.{bit, isOne, pick};
 ghost use Rattle.machine.specs.Memory.{lent, before, after, Shaped};
+ghost use Rattle.machine.specs.Graphics.{writeMode};
 ghost use Rattle.machine.specs.Sequencer.{fitsSeq};
 ghost use Rattle.machine.specs.Address.{a0 as bit0};
 ghost use Rattle.machine.specs.Deeds.{latch, laid, memoryAfter};
@@ -13,6 +14,7 @@ ghost use Rattle.machine.specs.Calls.{writeDeed};
 ghost use Rattle.graphics_controller.specs.Writes.{storesTo};
 use crate::data_path::written;
 use crate::select::visited;
+use machine::GraphicsController;
 use machine::GraphicsRegisters;
 use machine::Sequencer;
 use machine::WriteMode;
@@ -72,10 +74,8 @@ fn visit(
 
 // What a write does to the memory. Where no plane is stored, no pixel is remade; mode 3 only counts.
 pub fn write_planes(
-    mode: WriteMode,
-    registers: GraphicsRegisters,
+    gc: GraphicsController,
     seq: Sequencer,
-    latches: [u8; 4],
     p0: &mut [u8],
     p1: &mut [u8],
     p2: &mut [u8],
@@ -87,8 +87,10 @@ pub fn write_planes(
     byte: u8,
 )
     requires { ⌜ Shaped (lent p0 p1 p2 p3 picture) × ((at < length (now p0)) × ((fitsSeq seq ≡ true) × (a0 ≡ bit0 address))) ⌝ }
-    ensures { λ _. ⌜ after p0 p1 p2 p3 picture ≡ memoryAfter (writeDeed mode registers seq address at byte) latches (before p0 p1 p2 p3 picture) ⌝ }
+    ensures { λ _. ⌜ after p0 p1 p2 p3 picture ≡ memoryAfter (writeDeed (writeMode (gc .registers)) (gc .registers) seq address at byte) (gc .latches) (before p0 p1 p2 p3 picture) ⌝ }
 {
+    let registers = gc.registers;
+    let mode = registers.write_mode();
     if let WriteMode::Invalid = mode {
         return;
     }
@@ -96,6 +98,7 @@ pub fn write_planes(
     if planes == 0 {
         return;
     }
+    let latches = gc.latches;
     let bytes = written(mode, registers, latches, byte);
     let place = sequencer::inner::stored_at(seq, at);
     visit(p0, p1, p2, p3, picture, planes, bytes, place);

@@ -12,24 +12,21 @@ use Rattle.graphics_controller.proofs.access.cpu_write_u8.Tie as tie
 judge-requires : tie.Need-judge-requires
 judge-requires c κs = search needs
 
-enum-known-judged : tie.Need-enum-known-judged
-enum-known-judged c = search needs
+enum-known-x : tie.Need-enum-known-x
+enum-known-x c = search needs
 
-enum-known-judged-2 : tie.Need-enum-known-judged-2
-enum-known-judged-2 c = search needs
-
-write-mode-requires : tie.Need-write-mode-requires
-write-mode-requires c κs = search needs
+enum-known-offset : tie.Need-enum-known-offset
+enum-known-offset c = search needs
 
 write-planes-requires : tie.Need-write-planes-requires
 write-planes-requires c κs =
-    let a = c .before .before .before .before .before .before .before .before .before .before .before .before .before .before .before .before .before .before .before .before .before .before .args in
-    let l = located _ _ _ _ (a0 (a .address)) (c .before .before .before .before .before .before .before .before .before .before .judge .ensures) _ _ (c .before .before .before .before .before .before .before .before .judged2 .given .1) in
+    let a = c .before .before .before .before .before .before .before .before .before .before .before .before .before .before .before .before .before .before .before .args in
+    let l = located _ _ _ _ (a0 (a .address)) (c .before .before .before .before .before .before .before .before .judge .ensures) _ _ (c .before .before .before .before .before .before .offset .given .1) in
     let h = access-accepted (mem (a .p0 .now) (a .p1 .now) (a .p2 .now) (a .p3 .now) (a .picture .now)) (a .gc .registers) (a .seq) (a .address) (a .page) (sym (l .accepted)) in
     (h .shaped, (omega (arith, l .offset, h .offset), (access-fits (a .gc .registers) (a .seq) (shape (mem (a .p0 .now) (a .p1 .now) (a .p2 .now) (a .p3 .now) (a .picture .now))) (a .address) (a .page) (l .accepted) .1, l .bit0)))
 
-counted-write-requires : tie.Need-counted-write-requires
-counted-write-requires c κs = search needs
+wrote-requires : tie.Need-wrote-requires
+wrote-requires c κs = search needs
 
 same-length : tie.Need-same-length
 same-length c = search needs
@@ -48,8 +45,8 @@ same-length-5 c = search needs
 
 returns : tie.Need-returns
 returns c =
-    let a = c .before .before .before .before .before .before .before .before .before .before .before .before .before .before .before .args in
-    write-refused (a .gc) (a .seq) (mem (a .p0 .now) (a .p1 .now) (a .p2 .now) (a .p3 .now) (a .picture .now)) (a .address) (a .page) (a .byte) _ (refusal-some (c .before .judged .given .0 .0)) (unlocated _ _ _ _ (a0 (a .address)) (c .before .before .before .judge .ensures) _ (c .before .judged .given .1))
+    let a = c .before .before .before .before .before .before .before .before .before .before .before .before .before .before .args in
+    write-refused (a .gc) (a .seq) (mem (a .p0 .now) (a .p1 .now) (a .p2 .now) (a .p3 .now) (a .picture .now)) (a .address) (a .page) (a .byte) _ (refusal-some (c .before .x .given .0 .0)) (unlocated _ _ _ _ (a0 (a .address)) (c .before .before .before .judge .ensures) _ (c .before .x .given .1))
 
 same-length-6 : tie.Need-same-length-6
 same-length-6 c = search needs
@@ -68,20 +65,19 @@ same-length-10 c = search needs
 
 returns-2 : tie.Need-returns-2
 returns-2 c =
-    let a = c .before .before .before .before .before .before .before .before .before .before .before .before .before .before .before .before .before .before .before .before .before .before .before .before .before .before .before .before .before .before .before .before .before .before .args in
-    let l = located _ _ _ _ (a0 (a .address)) (c .before .before .before .before .before .before .before .before .before .before .before .before .before .before .before .before .before .before .before .before .before .before .judge .ensures) _ _ (c .before .before .before .before .before .before .before .before .before .before .before .before .before .before .before .before .before .before .before .before .judged2 .given .1) in
-    write-done (a .gc) (a .seq) (mem (a .p0 .now) (a .p1 .now) (a .p2 .now) (a .p3 .now) (a .picture .now)) (a .address) (a .page) (a .byte) _ _ _ _ (l .accepted) (l .offset) (c .before .before .before .before .before .before .before .before .before .before .before .before .before .before .before .before .before .before .write-mode .ensures) (c .counted-write .ensures) (c .before .before .before .before .before .before .before .before .before .before .before .write-planes .ensures)
+    let a = c .before .before .before .before .before .before .before .before .before .before .before .before .before .before .before .before .before .before .before .before .before .before .before .before .before .before .before .before .before .before .before .args in
+    let l = located _ _ _ _ (a0 (a .address)) (c .before .before .before .before .before .before .before .before .before .before .before .before .before .before .before .before .before .before .before .before .judge .ensures) _ _ (c .before .before .before .before .before .before .before .before .before .before .before .before .before .before .before .before .before .before .offset .given .1) in
+    write-done (a .gc) (a .seq) (mem (a .p0 .now) (a .p1 .now) (a .p2 .now) (a .p3 .now) (a .picture .now)) (a .address) (a .page) (a .byte) _ _ _ _ (l .accepted) (l .offset) (c .wrote .ensures) (c .before .before .before .before .before .before .before .before .before .before .before .write-planes .ensures)
 
 pub cpu-write-u8-spec : {M : Type 1} → statement M
 cpu-write-u8-spec =
     tie.close
     (tie.spec
     judge-requires
-    enum-known-judged
-    enum-known-judged-2
-    write-mode-requires
+    enum-known-x
+    enum-known-offset
     write-planes-requires
-    counted-write-requires
+    wrote-requires
     same-length
     same-length-2
     same-length-3

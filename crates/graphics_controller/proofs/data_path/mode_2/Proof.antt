@@ -1,50 +1,32 @@
--- `mode_2` gives the machine's byte for each plane: from `mode_2_byte`.
+-- `mode_2` is the logic step of the plane's bit, spread: from the two functions' contracts.
+use mathlib.Core.Path.{_∙_}
 use borrow.Author.Needs.{needs}
-use Rattle.machine.specs.DataPath.{writtenBit}
-use Rattle.graphics_controller.specs.Writes.{written}
-use Rattle.graphics_controller.proofs.Bytes.{alike}
+use Rattle.bits.proofs.Bitwise.{bit-spread}
+use Rattle.bits.proofs.Laws.{bit-lt}
+use Rattle.bits.specs.Bit.{bit}
+use Rattle.machine.specs.DataPath.{masked}
+use Rattle.machine.specs.Graphics.{logicFunction}
+use Rattle.graphics_controller.proofs.Bytes.{step-of}
 use Rattle.graphics_controller.proofs.data_path.mode_2.Statement.{statement}
 use Rattle.graphics_controller.proofs.data_path.mode_2.Tie as tie
 
-array-read-mode-2-byte : tie.Need-array-read-mode-2-byte
-array-read-mode-2-byte c = search needs
+spread-requires : tie.Need-spread-requires
+spread-requires c κs = search needs
 
-mode-2-byte-requires : tie.Need-mode-2-byte-requires
-mode-2-byte-requires c κs = search needs
+function-requires : tie.Need-function-requires
+function-requires c κs = search needs
 
-array-read-mode-2-byte-2 : tie.Need-array-read-mode-2-byte-2
-array-read-mode-2-byte-2 c = search needs
-
-mode-2-byte-requires-2 : tie.Need-mode-2-byte-requires-2
-mode-2-byte-requires-2 c κs = search needs
-
-array-read-mode-2-byte-3 : tie.Need-array-read-mode-2-byte-3
-array-read-mode-2-byte-3 c = search needs
-
-mode-2-byte-requires-3 : tie.Need-mode-2-byte-requires-3
-mode-2-byte-requires-3 c κs = search needs
-
-array-read-mode-2-byte-4 : tie.Need-array-read-mode-2-byte-4
-array-read-mode-2-byte-4 c = search needs
-
-mode-2-byte-requires-4 : tie.Need-mode-2-byte-requires-4
-mode-2-byte-requires-4 c κs = search needs
+logic-step-requires : tie.Need-logic-step-requires
+logic-step-requires c κs = search needs
 
 returns : tie.Need-returns
-unfolding written writtenBit
+unfolding masked
 returns c =
-    alike (c .before .before .before .mode-2-byte .ensures) (c .before .before .mode-2-byte2 .ensures) (c .before .mode-2-byte3 .ensures) (c .mode-2-byte4 .ensures)
+    let a = c .before .before .before .args in
+    let r = a .registers in
+    c .logic-step .ensures ∙ rw (c .before .function .ensures, c .before .before .spread .ensures) (
+    step-of (logicFunction r) (r .bitmask) _ (a .latch) (λ i. bit (a .plane) (a .byte)) (λ i h. bit-spread i (bit (a .plane) (a .byte)) h (bit-lt (a .plane) (a .byte))))
 
 pub mode-2-spec : {M : Type 1} → statement M
 mode-2-spec =
-    tie.close
-    (tie.spec
-    array-read-mode-2-byte
-    mode-2-byte-requires
-    array-read-mode-2-byte-2
-    mode-2-byte-requires-2
-    array-read-mode-2-byte-3
-    mode-2-byte-requires-3
-    array-read-mode-2-byte-4
-    mode-2-byte-requires-4
-    returns)
+    tie.close (tie.spec spread-requires function-requires logic-step-requires returns)

@@ -1,58 +1,66 @@
--- `written` gives the machine's byte for each plane in every mode: in modes 1 and 3 since the latches are bytes.
+-- `written` gives the machine's byte for each plane: from `plane_byte`, at the byte rotated once.
+use native.Mathlib.Omega.{arith}
 use borrow.Author.Needs.{needs}
-use Rattle.machine.specs.DataPath.{writtenBit}
+use Rattle.bits.specs.Bit.{field}
+use Rattle.machine.specs.Graphics.{rotateCount}
 use Rattle.graphics_controller.specs.Writes.{written}
-use Rattle.graphics_controller.proofs.Bytes.{kept-bytes}
+use Rattle.graphics_controller.proofs.Bytes.{turned-by, four-alike}
 use Rattle.graphics_controller.proofs.data_path.written.Statement.{statement}
 use Rattle.graphics_controller.proofs.data_path.written.Tie as tie
 
-enum-told : tie.Need-enum-told
-enum-told c = search needs
+rotate-count-requires : tie.Need-rotate-count-requires
+rotate-count-requires c κs = search needs
 
-mode-0-requires : tie.Need-mode-0-requires
-mode-0-requires c κs = search needs
+rotate-right-u8-requires : tie.Need-rotate-right-u8-requires
+unfolding rotateCount field
+rotate-right-u8-requires c κs =
+    omega (arith, c .rotate-count .ensures)
 
-enum-told-2 : tie.Need-enum-told-2
-enum-told-2 c = search needs
+array-read-plane-byte : tie.Need-array-read-plane-byte
+array-read-plane-byte c = search needs
 
-enum-told-3 : tie.Need-enum-told-3
-enum-told-3 c = search needs
+plane-byte-requires : tie.Need-plane-byte-requires
+plane-byte-requires c κs =
+    (omega arith, turned-by (c .before .before .args .registers) (c .before .before .args .byte) _ _ (c .rotate-right-u8 .ensures) (c .before .rotate-count .ensures))
 
-mode-2-requires : tie.Need-mode-2-requires
-mode-2-requires c κs = search needs
+array-read-plane-byte-2 : tie.Need-array-read-plane-byte-2
+array-read-plane-byte-2 c = search needs
 
-enum-told-4 : tie.Need-enum-told-4
-enum-told-4 c = search needs
+plane-byte-requires-2 : tie.Need-plane-byte-requires-2
+plane-byte-requires-2 c κs =
+    (omega arith, turned-by (c .before .before .before .args .registers) (c .before .before .before .args .byte) _ _ (c .before .rotate-right-u8 .ensures) (c .before .before .rotate-count .ensures))
+
+array-read-plane-byte-3 : tie.Need-array-read-plane-byte-3
+array-read-plane-byte-3 c = search needs
+
+plane-byte-requires-3 : tie.Need-plane-byte-requires-3
+plane-byte-requires-3 c κs =
+    (omega arith, turned-by (c .before .before .before .before .args .registers) (c .before .before .before .before .args .byte) _ _ (c .before .before .rotate-right-u8 .ensures) (c .before .before .before .rotate-count .ensures))
+
+array-read-plane-byte-4 : tie.Need-array-read-plane-byte-4
+array-read-plane-byte-4 c = search needs
+
+plane-byte-requires-4 : tie.Need-plane-byte-requires-4
+plane-byte-requires-4 c κs =
+    (omega arith, turned-by (c .before .before .before .before .before .args .registers) (c .before .before .before .before .before .args .byte) _ _ (c .before .before .before .rotate-right-u8 .ensures) (c .before .before .before .before .rotate-count .ensures))
 
 returns : tie.Need-returns
+unfolding written
 returns c =
-    rw (c .before .enum-told .given .1) (c .mode-0 .ensures)
-
-returns-2 : tie.Need-returns-2
-unfolding written writtenBit
-returns-2 c =
-    rw (c .enum-told2 .given .1) (kept-bytes (c .before .before .args .latches) _ (c .before .before .good .1 .1 .0))
-
-returns-3 : tie.Need-returns-3
-returns-3 c =
-    rw (c .before .enum-told3 .given .1) (c .mode-2 .ensures)
-
-returns-4 : tie.Need-returns-4
-unfolding written writtenBit
-returns-4 c =
-    rw (c .enum-told4 .given .1) (kept-bytes (c .before .before .args .latches) _ (c .before .before .good .1 .1 .0))
+    four-alike (c .before .before .before .plane-byte .ensures) (c .before .before .plane-byte2 .ensures) (c .before .plane-byte3 .ensures) (c .plane-byte4 .ensures)
 
 pub written-spec : {M : Type 1} → statement M
 written-spec =
     tie.close
     (tie.spec
-    enum-told
-    mode-0-requires
-    enum-told-2
-    enum-told-3
-    mode-2-requires
-    enum-told-4
-    returns
-    returns-2
-    returns-3
-    returns-4)
+    rotate-count-requires
+    rotate-right-u8-requires
+    array-read-plane-byte
+    plane-byte-requires
+    array-read-plane-byte-2
+    plane-byte-requires-2
+    array-read-plane-byte-3
+    plane-byte-requires-3
+    array-read-plane-byte-4
+    plane-byte-requires-4
+    returns)
