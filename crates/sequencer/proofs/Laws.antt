@@ -79,7 +79,7 @@ pub cleared : (x : ℕ) → x < 2 ^ 64 → bitAnd x (2 ^ 64 - 4) ≡ x / 4 * 4
 cleared x h = and-high x 62 2 ∙ ap (λ (q : ℕ). q * 4) (mod-eq-of-lt (omega arith))
 
 -- never past the offset that was judged, so within the plane where that is
-stored-at-le : (s : Sequencer) (o : ℕ) → storedAt s o ≤ o
+pub stored-at-le : (s : Sequencer) (o : ℕ) → storedAt s o ≤ o
 unfolding storedAt
 stored-at-le s o = go (chainFour s)
   where
