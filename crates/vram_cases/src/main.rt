@@ -2,6 +2,7 @@
 mod memories;
 mod print;
 mod row;
+mod store;
 mod story;
 
 use memories::bad_memory;

@@ -1,11 +1,11 @@
 // One line for a case: each call on the same memory, first those that change nothing.
 use crate::print::byte_answer;
 use crate::print::changed;
-use crate::print::done_answer;
 use crate::print::end_line;
 use crate::print::part_answer;
-use crate::print::store_answer;
 use crate::print::text;
+use crate::store::STORES;
+use crate::store::store;
 use machine::PixelPlace;
 use machine::PlaneOffset;
 
@@ -47,9 +47,12 @@ pub fn row(
         PlaneOffset(at),
         PixelPlace(place),
     );
-    done_answer(vram::deplane(p0, p1, p2, p3, picture, PlaneOffset(at)));
-    text(b",");
-    stores(p0, p1, p2, p3, picture, plane, PlaneOffset(at));
+    let mut call = 0;
+    while call < STORES {
+        text(b",");
+        store(call, p0, p1, p2, p3, picture, plane, PlaneOffset(at), BYTE);
+        call += 1;
+    }
     text(b"; changed");
     changed(p0, FILL0);
     changed(p1, FILL1);
@@ -78,49 +81,6 @@ fn reads(
     byte_answer(vram::read_linear(p0, p1, p2, p3, picture, place));
     text(b",");
     shown(p0, p1, p2, p3, picture, offset);
-    text(b",");
-}
-
-fn stores(
-    p0: &mut [u8],
-    p1: &mut [u8],
-    p2: &mut [u8],
-    p3: &mut [u8],
-    picture: &mut [u8],
-    plane: usize,
-    offset: PlaneOffset,
-) {
-    sets(p0, p1, p2, p3, picture, plane, offset);
-    merges(p0, p1, p2, p3, picture, plane, offset);
-}
-
-fn sets(
-    p0: &mut [u8],
-    p1: &mut [u8],
-    p2: &mut [u8],
-    p3: &mut [u8],
-    picture: &mut [u8],
-    plane: usize,
-    offset: PlaneOffset,
-) {
-    store_answer(vram::write_u8(p0, p1, p2, p3, picture, plane, offset, BYTE));
-    text(b",");
-    store_answer(vram::plane_set(p0, p1, p2, p3, picture, plane, offset, BYTE));
-    text(b",");
-}
-
-fn merges(
-    p0: &mut [u8],
-    p1: &mut [u8],
-    p2: &mut [u8],
-    p3: &mut [u8],
-    picture: &mut [u8],
-    plane: usize,
-    offset: PlaneOffset,
-) {
-    store_answer(vram::plane_and(p0, p1, p2, p3, picture, plane, offset, BYTE));
-    text(b",");
-    store_answer(vram::plane_or(p0, p1, p2, p3, picture, plane, offset, BYTE));
 }
 
 // A show's answer; its number is first set to one that no call answers.

@@ -1,13 +1,23 @@
 // A run of accepted calls on two bytes a plane, with the whole memory after each store.
 use crate::print::byte_answer;
-use crate::print::done_answer;
 use crate::print::end_line;
 use crate::print::memory;
-use crate::print::store_answer;
+use crate::print::number;
 use crate::print::text;
 use crate::row::shown;
+use crate::store::name;
+use crate::store::store;
 use machine::PixelPlace;
 use machine::PlaneOffset;
+
+// The steps: a call's number, its plane, offset and byte.
+const CALLS: [usize; 5] = [0, 2, 1, 3, 4];
+
+const PLANES: [usize; 5] = [0, 3, 2, 0, 1];
+
+const OFFSETS: [usize; 5] = [0, 1, 1, 0, 0];
+
+const BYTES: [u8; 5] = [0, 0x81, 0x18, 0x3C, 0xF0];
 
 pub fn tell() {
     let mut p0 = [0xA5u8, 0x00];
@@ -35,60 +45,42 @@ fn planes(p0: &[u8], p1: &[u8], p2: &[u8], p3: &[u8], picture: &[u8]) {
     end_line();
 }
 
-// The stores, two by two.
+// Step by step: a call, and the memory that it leaves.
 fn stores(p0: &mut [u8], p1: &mut [u8], p2: &mut [u8], p3: &mut [u8], picture: &mut [u8]) {
-    sets(p0, p1, p2, p3, picture);
-    merges(p0, p1, p2, p3, picture);
+    let mut i = 0;
+    while i < 5 {
+        let plane = PLANES[i];
+        let at = OFFSETS[i];
+        let byte = BYTES[i];
+        title(CALLS[i], plane, at, byte);
+        store(
+            CALLS[i],
+            p0,
+            p1,
+            p2,
+            p3,
+            picture,
+            plane,
+            PlaneOffset(at),
+            byte,
+        );
+        end_line();
+        memory(p0, p1, p2, p3, picture);
+        i += 1;
+    }
 }
 
-fn sets(p0: &mut [u8], p1: &mut [u8], p2: &mut [u8], p3: &mut [u8], picture: &mut [u8]) {
-    remake(p0, p1, p2, p3, picture);
-    set_and_write(p0, p1, p2, p3, picture);
-}
-
-fn set_and_write(p0: &mut [u8], p1: &mut [u8], p2: &mut [u8], p3: &mut [u8], picture: &mut [u8]) {
-    set(p0, p1, p2, p3, picture);
-    write(p0, p1, p2, p3, picture);
-}
-
-fn merges(p0: &mut [u8], p1: &mut [u8], p2: &mut [u8], p3: &mut [u8], picture: &mut [u8]) {
-    and(p0, p1, p2, p3, picture);
-    or(p0, p1, p2, p3, picture);
-}
-
-fn remake(p0: &mut [u8], p1: &mut [u8], p2: &mut [u8], p3: &mut [u8], picture: &mut [u8]) {
-    text(b"deplane 0:");
-    done_answer(vram::deplane(p0, p1, p2, p3, picture, PlaneOffset(0)));
-    end_line();
-    memory(p0, p1, p2, p3, picture);
-}
-
-fn set(p0: &mut [u8], p1: &mut [u8], p2: &mut [u8], p3: &mut [u8], picture: &mut [u8]) {
-    text(b"plane_set 3 1 81:");
-    store_answer(vram::plane_set(p0, p1, p2, p3, picture, 3, PlaneOffset(1), 0x81));
-    end_line();
-    memory(p0, p1, p2, p3, picture);
-}
-
-fn write(p0: &mut [u8], p1: &mut [u8], p2: &mut [u8], p3: &mut [u8], picture: &mut [u8]) {
-    text(b"write_u8 2 1 18:");
-    store_answer(vram::write_u8(p0, p1, p2, p3, picture, 2, PlaneOffset(1), 0x18));
-    end_line();
-    memory(p0, p1, p2, p3, picture);
-}
-
-fn and(p0: &mut [u8], p1: &mut [u8], p2: &mut [u8], p3: &mut [u8], picture: &mut [u8]) {
-    text(b"plane_and 0 0 3c:");
-    store_answer(vram::plane_and(p0, p1, p2, p3, picture, 0, PlaneOffset(0), 0x3C));
-    end_line();
-    memory(p0, p1, p2, p3, picture);
-}
-
-fn or(p0: &mut [u8], p1: &mut [u8], p2: &mut [u8], p3: &mut [u8], picture: &mut [u8]) {
-    text(b"plane_or 1 0 f0:");
-    store_answer(vram::plane_or(p0, p1, p2, p3, picture, 1, PlaneOffset(0), 0xF0));
-    end_line();
-    memory(p0, p1, p2, p3, picture);
+fn title(call: usize, plane: usize, at: usize, byte: u8) {
+    name(call);
+    text(b" offset ");
+    number(at);
+    if call > 0 {
+        text(b" plane ");
+        number(plane);
+        text(b" byte ");
+        number(byte as usize);
+    }
+    text(b":");
 }
 
 fn pixels(p0: &[u8], p1: &[u8], p2: &[u8], p3: &[u8], picture: &[u8]) {
