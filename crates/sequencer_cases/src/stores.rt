@@ -1,0 +1,157 @@
+// The stores through the mask: each line has the answer, the planes and every offset's eight pixels afterwards.
+use crate::memory;
+use crate::print;
+use crate::records::masked;
+use machine::PlaneOffset;
+use machine::Sequencer;
+
+pub fn tell() {
+    print::line(b"every byte of a plane is 0F and every pixel 9 before; the byte is A5");
+    sequential();
+    odd_even();
+    chain_four();
+    refused();
+}
+
+fn sequential() {
+    let all = masked(0x0F, 0x04);
+    set(b"sequential, Map Mask F, plane 1", all, 1, 5, false);
+    set(b"the same with a0", all, 1, 5, true);
+    and(b"and", all, 1, 5, false);
+    or(b"or", all, 1, 5, false);
+    let without = masked(0x0D, 0x04);
+    set(b"Map Mask D: stopped", without, 1, 5, false);
+    and(b"and, stopped", without, 1, 5, false);
+    or(b"or, stopped", without, 1, 5, false);
+}
+
+fn odd_even() {
+    let all = masked(0x0F, 0x00);
+    set(b"odd/even, plane 0", all, 0, 1, false);
+    set(b"odd/even, plane 1: stopped", all, 1, 1, false);
+    set(b"odd/even with a0, plane 2: stopped", all, 2, 1, true);
+    set(b"odd/even with a0, plane 3", all, 3, 1, true);
+    set(
+        b"Map Mask 7, plane 3: stopped",
+        masked(0x07, 0x00),
+        3,
+        1,
+        true,
+    );
+}
+
+// Document 01's case 10, and more.
+fn chain_four() {
+    let none = masked(0x00, 0x0C);
+    set(
+        b"chain-four, Map Mask 0, at 5, plane 0: stopped",
+        none,
+        0,
+        5,
+        false,
+    );
+    set(b"chain-four, Map Mask 0, at 5, plane 1", none, 1, 5, false);
+    set(
+        b"chain-four, Map Mask 0, at 5, plane 2: stopped",
+        none,
+        2,
+        5,
+        false,
+    );
+    set(
+        b"chain-four, Map Mask 0, at 5, plane 3: stopped",
+        none,
+        3,
+        5,
+        false,
+    );
+    and(b"chain-four, and, at 2", none, 2, 2, false);
+    or(
+        b"chain-four, odd/even, a0, or, at 3",
+        masked(0x00, 0x08),
+        3,
+        3,
+        true,
+    );
+}
+
+fn refused() {
+    let all = masked(0x0F, 0x04);
+    set(b"plane 4", all, 4, 5, false);
+    set(b"offset n", all, 1, 6, false);
+    set(b"offset n, stopped", masked(0x00, 0x04), 1, 6, false);
+    and(b"offset n, chain-four", masked(0x0F, 0x0C), 2, 6, false);
+    or(b"plane 4, offset n", all, 4, 6, false);
+}
+
+fn set(label: &[u8], seq: Sequencer, plane: usize, at: usize, a0: bool) {
+    let mut p0 = [0x0F; 6];
+    let mut p1 = [0x0F; 6];
+    let mut p2 = [0x0F; 6];
+    let mut p3 = [0x0F; 6];
+    let mut picture = [9; 48];
+    let o = PlaneOffset(at);
+    let answer = sequencer::plane_set(
+        seq,
+        &mut p0,
+        &mut p1,
+        &mut p2,
+        &mut p3,
+        &mut picture,
+        plane,
+        o,
+        a0,
+        0xA5,
+    );
+    print::line(label);
+    print::store_answer(b"  plane_set", answer);
+    memory::show(&p0, &p1, &p2, &p3, &picture);
+}
+
+fn and(label: &[u8], seq: Sequencer, plane: usize, at: usize, a0: bool) {
+    let mut p0 = [0x0F; 6];
+    let mut p1 = [0x0F; 6];
+    let mut p2 = [0x0F; 6];
+    let mut p3 = [0x0F; 6];
+    let mut picture = [9; 48];
+    let o = PlaneOffset(at);
+    let answer = sequencer::plane_and(
+        seq,
+        &mut p0,
+        &mut p1,
+        &mut p2,
+        &mut p3,
+        &mut picture,
+        plane,
+        o,
+        a0,
+        0xA5,
+    );
+    print::line(label);
+    print::store_answer(b"  plane_and", answer);
+    memory::show(&p0, &p1, &p2, &p3, &picture);
+}
+
+fn or(label: &[u8], seq: Sequencer, plane: usize, at: usize, a0: bool) {
+    let mut p0 = [0x0F; 6];
+    let mut p1 = [0x0F; 6];
+    let mut p2 = [0x0F; 6];
+    let mut p3 = [0x0F; 6];
+    let mut picture = [9; 48];
+    let o = PlaneOffset(at);
+    let answer = sequencer::plane_or(
+        seq,
+        &mut p0,
+        &mut p1,
+        &mut p2,
+        &mut p3,
+        &mut picture,
+        plane,
+        o,
+        a0,
+        0xA5,
+    );
+    print::line(label);
+    print::store_answer(b"  plane_or", answer);
+    memory::show(&p0, &p1, &p2, &p3, &picture);
+}
