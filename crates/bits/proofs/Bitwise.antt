@@ -5,10 +5,13 @@ use native.Mathlib.Numerals.{add-one}
 use native.Mathlib.Omega.{arith}
 use mathlib.Core.Path.{_≡_, refl, sym, ap, _∙_}
 use lib.Arith.{digits-mod}
-use lib.Pow.{shr-lt, shl-shr, pow-lt, pow-pos, pow-add}
-use lib.Bits.{bitAnd, bitOr, bitXor, differ, and-step, or-step, xor-step, and-shr, or-shr, xor-shr, and-le-r, or-lt, xor-lt, and-mask, and-high, or-shifted-r, shifted-even, shifted-half}
+use lib.Pow.{shr-lt, pow-lt, pow-pos, pow-add}
+use lib.Bits.{bitAnd, bitOr, bitXor, differ, and-step, or-step, xor-step, and-shr, or-shr, xor-shr, and-le-r, or-lt, xor-lt, and-mask, and-high, or-shifted-r}
 use Rattle.bits.specs.Bit.{bit, ofBits, byteOf}
-use Rattle.bits.proofs.Laws.{bit-lt, bit-zero, bit-suc, bit-shr, bit-of, of-lt, of-more}
+use Rattle.bits.proofs.Laws.{bit-lt, bit-zero, bit-suc, bit-of, of-lt, of-more}
+use Rattle.bits.proofs.Decide.{same4}
+use mathlib.Core.List.{[], _∷_}
+use lib.ListN.{getD}
 
 -- ---- the operations
 
@@ -44,15 +47,6 @@ bit-not (suc n) {x} h (suc i) l =
 pub bit-flip : (i x : ℕ) → x < 256 → i < 8 → bit i (255 - x) ≡ 1 - bit i x
 bit-flip i x h l = bit-not 8 h i l
 
--- bits moved up
-pub bit-shl : (i k x : ℕ) → bit (k + i) (x * 2 ^ k) ≡ bit i x
-bit-shl i k x = sym (bit-shr i k (x * 2 ^ k)) ∙ ap (bit i) (shl-shr x k)
-
-pub bit-shl-low : (i k x : ℕ) → i < k → bit i (x * 2 ^ k) ≡ 0
-bit-shl-low i zero x h = absurd (not-suc-le-zero h)
-bit-shl-low zero (suc k) x h = bit-zero (x * 2 ^ suc k) ∙ shifted-even x k
-bit-shl-low (suc i) (suc k) x h = bit-suc i (x * 2 ^ suc k) ∙ ap (bit i) (shifted-half x k) ∙ bit-shl-low i k x (le-of-suc-le-suc h)
-
 -- eight times one bit
 pub bit-spread : (i b : ℕ) → i < 8 → b < 2 → bit i (byteOf (λ k. b)) ≡ b
 bit-spread i b h l = bit-of 8 (λ k. b) (λ k. l) i h
@@ -81,6 +75,16 @@ pub ruleset bytes = (and8, or8, xor8, flip8)
 pub shr-and-one : (x k : ℕ) → bitAnd (x / 2 ^ k) 1 ≡ bit k x
 unfolding bit
 shr-and-one x k = and-mask (x / 2 ^ k) 1
+
+-- bit s of each of four bytes, moved to its byte's number: `b0 | (b1 << 1) | (b2 << 2) | (b3 << 3)`
+pub four-bits : (w x y z s : ℕ)
+    → bitOr (bitOr (bitOr (bitAnd (w / 2 ^ s) 1) (bitAnd (x / 2 ^ s) 1 * 2 % 256)) (bitAnd (y / 2 ^ s) 1 * 4 % 256)) (bitAnd (z / 2 ^ s) 1 * 8 % 256)
+    ≡ ofBits 4 (λ p. bit s (getD (w ∷ x ∷ y ∷ z ∷ []) p 0))
+unfolding ofBits
+four-bits w x y z s = rw (shr-and-one w s, shr-and-one x s, shr-and-one y s, shr-and-one z s) (joined (bit s w) (bit s x) (bit s y) (bit s z) (bit-lt s w) (bit-lt s x) (bit-lt s y) (bit-lt s z))
+  where
+    joined : (a b c d : ℕ) → a < 2 → b < 2 → c < 2 → d < 2 → bitOr (bitOr (bitOr a (b * 2 % 256)) (c * 4 % 256)) (d * 8 % 256) ≡ a + 2 * (b + 2 * (c + 2 * (d + 2 * 0)))
+    joined = same4 (λ a b c d. bitOr (bitOr (bitOr a (b * 2 % 256)) (c * 4 % 256)) (d * 8 % 256)) (λ a b c d. a + 2 * (b + 2 * (c + 2 * (d + 2 * 0)))) tt
 
 -- `x & (1 << p)` at a byte
 pub and-one-shl : (x p : ℕ) → p < 8 → bitAnd x (1 * 2 ^ p % 256) ≡ bit p x * 2 ^ p

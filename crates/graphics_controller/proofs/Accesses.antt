@@ -2,7 +2,7 @@
 use Prim.Native.Nat.{ℕ, zero, suc, _+_, _*_, _/_, _≤_, _<_}
 use native.Mathlib.Omega.{arith}
 use mathlib.Core.Path.{_≡_, refl, sym, ap, _∙_}
-use mathlib.Core.Bool.{Bool, true, false, _&&_}
+use mathlib.Core.Bool.{Bool, true, false}
 use mathlib.Core.List.{List, []}
 use lib.Dec.{leb}
 use lib.ListN.{length, getD, take, drop}
@@ -29,7 +29,7 @@ use Rattle.machine.specs.DataPath.{selectedPlane}
 use Rattle.machine.specs.Deeds.{byte, latch, loaded, latchesAfter, memoryAfter, valueOf}
 use Rattle.machine.specs.Calls.{refuse, fitsBoth, accessNumber, shows, showNumber, CpuPlan, counted, readCounter, writeCounter, readReply, writeDeed, cpuPlan, cpuRead, cpuPeek, cpuWrite, serialize}
 use Rattle.machine.specs.Step.{device, lifted, cpuPerform, cpuStep}
-use Rattle.machine.proofs.Laws.{both, refuse-0, sound-shaped, AtOffset, answered-done, answered-refused}
+use Rattle.machine.proofs.Laws.{both, refuse-0, sound-shaped, AtOffset, answered-refused}
 use Rattle.graphics_controller.specs.Reads.{readByte}
 
 -- ---- what an answer says of an address

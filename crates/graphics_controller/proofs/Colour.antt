@@ -1,7 +1,7 @@
 -- The compare read: one test of a pixel's four bits at once is the machine's rule, plane by plane.
-use Prim.Native.Nat.{ℕ, zero, suc, _+_, _*_, _/_, _%_, _^_, _≤_, _<_}
+use Prim.Native.Nat.{ℕ, _+_, _*_, _/_, _%_, _^_, _≤_, _<_}
 use native.Mathlib.Omega.{arith}
-use mathlib.Core.Path.{_≡_, refl, sym, ap, _∙_}
+use mathlib.Core.Path.{_≡_, sym, ap, _∙_}
 use mathlib.Core.Bool.{Bool, true, false}
 use mathlib.Core.List.{List}
 use borrow.Author.Tests.{eq-eqb, ne-eqb}
@@ -9,8 +9,8 @@ use lib.Dec.{eqb, lit<}
 use lib.Bits.{bitAnd, bitOr}
 use Rattle.bits.specs.Bit.{bit, ofBits, isOne, bitOf, pick, every}
 use Rattle.bits.proofs.Laws.{bit-lt, bit-of, of-lt}
-use Rattle.bits.proofs.Bitwise.{shr-and-one, more-set, more-clear}
-use Rattle.bits.proofs.Decide.{agree3, same4}
+use Rattle.bits.proofs.Bitwise.{four-bits, more-set, more-clear}
+use Rattle.bits.proofs.Decide.{agree3}
 use Rattle.machine.specs.Deeds.{latch}
 
 -- four planes' bits, as one number
@@ -20,10 +20,7 @@ pixel l i = ofBits 4 (λ p. bit i (latch l p))
 -- as the code puts it together
 pub pixel-is : (l : List ℕ) (i : ℕ) → bitOr (bitOr (bitOr (bitAnd (latch l 0 / 2 ^ i) 1) (bitAnd (latch l 1 / 2 ^ i) 1 * 2 % 256)) (bitAnd (latch l 2 / 2 ^ i) 1 * 4 % 256)) (bitAnd (latch l 3 / 2 ^ i) 1 * 8 % 256) ≡ pixel l i
 unfolding ofBits
-pixel-is l i = simp shr-and-one (joined (bit i (latch l 0)) (bit i (latch l 1)) (bit i (latch l 2)) (bit i (latch l 3)) (bit-lt i _) (bit-lt i _) (bit-lt i _) (bit-lt i _))
-  where
-    joined : (a b c d : ℕ) → a < 2 → b < 2 → c < 2 → d < 2 → bitOr (bitOr (bitOr a (b * 2 % 256)) (c * 4 % 256)) (d * 8 % 256) ≡ a + 2 * (b + 2 * (c + 2 * (d + 2 * 0)))
-    joined = same4 (λ a b c d. bitOr (bitOr (bitOr a (b * 2 % 256)) (c * 4 % 256)) (d * 8 % 256)) (λ a b c d. a + 2 * (b + 2 * (c + 2 * (d + 2 * 0)))) tt
+pixel-is l i = four-bits (latch l 0) (latch l 1) (latch l 2) (latch l 3) i
 
 -- the rule for a colour of four bits
 abbrev sameColour : ℕ → ℕ → ℕ → ℕ

@@ -1,5 +1,5 @@
 -- A write's planes: four tests as four bits, bytes laid plane by plane, and the deed of a write from them.
-use Prim.Native.Nat.{ℕ, zero, suc, _+_, _*_, _^_, _≤_, _<_, min}
+use Prim.Native.Nat.{ℕ, zero, suc, _+_, _*_, _<_, min}
 use native.Mathlib.Omega.{arith}
 use native.Mathlib.Numerals.{add-one}
 use mathlib.Core.Path.{_≡_, refl, sym, ap, ap₂, _∙_}
@@ -16,7 +16,7 @@ use Rattle.machine.specs.declared.graphics.GraphicsRegisters.{GraphicsRegisters
 use Rattle.machine.specs.declared.graphics.WriteMode.{WriteMode}
 use Rattle.machine.specs.declared.graphics.WriteMode.the-variants.{Mode0, Mode1, Mode2, Invalid}
 use Rattle.machine.specs.declared.sequencer.Sequencer.{Sequencer}
-use Rattle.machine.specs.Memory.{Memory, mem, plane}
+use Rattle.machine.specs.Memory.{Memory, plane}
 use Rattle.machine.specs.Sequencer.{storedAt}
 use Rattle.machine.specs.Deeds.{latch, any, laid, remade, stored, storedByte, memoryAfter}
 use Rattle.machine.specs.Calls.{writeDeed}

@@ -1,17 +1,17 @@
--- What the code's proofs cite: refusal 1 test by test, a pixel by shifts and masks, eight stores as one remaking, one byte stored as the machine's store.
-use Prim.Native.Nat.{ℕ, zero, suc, _+_, _*_, _/_, _%_, _^_, _<_, _≤_}
+-- What the code's proofs cite: refusal 1 test by test, eight stores as one remaking, one byte stored as the machine's store.
+use Prim.Native.Nat.{ℕ, zero, suc, _+_, _*_, _<_, _≤_}
 use native.Mathlib.Omega.{arith}
 use native.Mathlib.Numerals.{towards-suc}
 use mathlib.Core.Path.{_≡_, refl, sym, ap, _∙_}
 use mathlib.Core.Bool.{Bool, true, false, _&&_}
 use mathlib.Core.List.{List, [], _∷_}
-use lib.Bits.{bitAnd, bitOr, or-shifted-r}
+use lib.Bits.{bitAnd, bitOr}
 use lib.Dec.{eqb}
 use lib.ListN.{length, getD, set}
 use borrow.Author.Tests.{lt-ltb, le-ltb, le-leb, lt-leb, eq-eqb, ne-eqb}
 use Rattle.bits.specs.Bit.{bit, ofBits}
-use Rattle.bits.proofs.Laws.{bit-lt, is-of}
-use Rattle.bits.proofs.Bitwise.{bit-and, bit-or, shr-and-one}
+use Rattle.bits.proofs.Laws.{is-of}
+use Rattle.bits.proofs.Bitwise.{bit-and, bit-or}
 use Rattle.machine.specs.Memory.{Memory, mem, shape, sound, Shaped}
 use Rattle.machine.specs.declared.answer.DoneAnswer.{DoneAnswer}
 use Rattle.machine.specs.Answers.{one, said, outcome, doneSaid}
@@ -63,24 +63,6 @@ module _ (m : Memory) (e : sound (shape m) ≡ true) (j : ℕ) where
   place-out h = simp (e, le-ltb j (8 * length (m .p0)) (omega (arith, sound-shaped m e .eightfold)))
 
 -- ---- pixels
-
--- four bits, each moved to its plane's place
-joined : (a b c d : ℕ) → a < 2 → b < 2 → c < 2 → d < 2 → bitOr (bitOr (bitOr a (b * 2 % 256)) (c * 4 % 256)) (d * 8 % 256) ≡ a + 2 * (b + 2 * (c + 2 * (d + 0)))
-joined a b c d ha hb hc hd =
-    let eb : b * 2 % 256 ≡ b * 2 ^ 1 = omega arith in
-    let ec : c * 4 % 256 ≡ c * 2 ^ 2 = omega arith in
-    let ed : d * 8 % 256 ≡ d * 2 ^ 3 = omega arith in
-    rw (eb, ec, ed, or-shifted-r b 1 a (omega arith), or-shifted-r c 2 (b * 2 ^ 1 + a) (omega arith), or-shifted-r d 3 (c * 2 ^ 2 + (b * 2 ^ 1 + a)) (omega arith))
-    (omega arith)
-
--- shifts and masks on four bytes make the number whose bit p is bit s of byte p
-pub pixel-made : (w x y z s : ℕ)
-    → bitOr (bitOr (bitOr (bitAnd (w / 2 ^ s) 1) (bitAnd (x / 2 ^ s) 1 * 2 % 256)) (bitAnd (y / 2 ^ s) 1 * 4 % 256)) (bitAnd (z / 2 ^ s) 1 * 8 % 256)
-    ≡ ofBits 4 (λ p. bit s (getD (w ∷ x ∷ y ∷ z ∷ []) p 0))
-unfolding ofBits
-pixel-made w x y z s =
-    rw (shr-and-one w s, shr-and-one x s, shr-and-one y s, shr-and-one z s)
-    (joined (bit s w) (bit s x) (bit s y) (bit s z) (bit-lt s w) (bit-lt s x) (bit-lt s y) (bit-lt s z))
 
 -- what the four planes have at an offset
 abbrev pub column : Memory → ℕ → List ℕ

@@ -1,6 +1,6 @@
--- `pixel` makes the number whose bit p is bit s of byte p, by `pixel-made`.
+-- `pixel` makes the number whose bit p is bit s of byte p, by `four-bits`.
 use borrow.Author.Needs.{needs}
-use Rattle.vram.proofs.Laws.{pixel-made}
+use Rattle.bits.proofs.Bitwise.{four-bits}
 use Rattle.vram.proofs.inner.pixel.Statement.{statement}
 use Rattle.vram.proofs.inner.pixel.Tie as tie
 
@@ -18,7 +18,7 @@ shr-bit3 c = search needs
 
 returns : tie.Need-returns
 returns c =
-    pixel-made _ _ _ _ _
+    four-bits _ _ _ _ _
 
 pub pixel-spec : {M : Type 1} → statement M
 pixel-spec = tie.close (tie.spec shr-bit0 shr-bit1 shr-bit2 shr-bit3 returns)
