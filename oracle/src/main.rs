@@ -17,7 +17,7 @@ use std::process::ExitCode;
 use std::time::Duration;
 
 const USAGE: &str = "oracle run LIST [OURS | --refusing]    the Rust's lines; without ours' lines every call is given to it
-oracle generate SEED COUNT             a list
+oracle generate SEED COUNT [PART PARTS] a list; of several from one seed, PART (from 0) of PARTS
 oracle compare LIST OURS THEIRS        the first difference of two files of lines
 oracle shrink SECONDS FILE COMMAND..   a smaller list than FILE's on which COMMAND and the Rust differ
 LIST - is standard input.";
@@ -30,7 +30,8 @@ fn main() -> ExitCode {
         ["run", list] => run_list(list, &run::Refused::Given),
         ["run", list, "--refusing"] => run_list(list, &run::Refused::Answered),
         ["run", list, ours] => run_beside(list, ours),
-        ["generate", seed, count] => make_list(seed, count),
+        ["generate", seed, count] => make_list(seed, count, "0", "1"),
+        ["generate", seed, count, part, parts] => make_list(seed, count, part, parts),
         ["compare", list, ours, theirs] => compare_files(list, ours, theirs),
         ["shrink", seconds, file, command @ ..] if !command.is_empty() => shrink_list(seconds, file, command),
         _ => Err(USAGE.to_string()),
@@ -60,12 +61,14 @@ fn run_beside(list: &str, ours: &str) -> Done {
     run_list(list, &run::Refused::Skipped(ours.lines().collect()))
 }
 
-fn make_list(seed: &str, count: &str) -> Done {
-    let seed = seed.parse().map_err(|_| format!("{seed} is no seed"))?;
-    let count = count.parse().map_err(|_| format!("{count} is no count"))?;
-    let calls = generate::generate(seed, count);
-    print!("# seed {seed}, {count} calls\n{}", list::to_text(&calls));
+fn make_list(seed: &str, count: &str, part: &str, parts: &str) -> Done {
+    let calls = generate::generate(number(seed)?, number(count)?, number(part)?, number(parts)?);
+    print!("# seed {seed}, part {part} of {parts}, {count} calls\n{}", list::to_text(&calls));
     Ok(true)
+}
+
+fn number<N: std::str::FromStr>(word: &str) -> Result<N, String> {
+    word.parse().map_err(|_| format!("{word} is no number"))
 }
 
 fn compare_files(list: &str, ours: &str, theirs: &str) -> Done {
@@ -81,8 +84,7 @@ fn compare_files(list: &str, ours: &str, theirs: &str) -> Done {
 }
 
 fn shrink_list(seconds: &str, file: &str, command: &[&str]) -> Done {
-    let seconds = seconds.parse().map_err(|_| format!("{seconds} is no number"))?;
-    let calls = list::read(file)?;
+    let (seconds, calls) = (number(seconds)?, list::read(file)?);
     let command = command.iter().map(|word| word.to_string()).collect();
     let ours = shrink::Ours { command, file: format!("{file}.shrunk") };
     let (calls, smallest) = shrink::shrink(calls, &ours, Duration::from_secs(seconds))?;
@@ -90,7 +92,7 @@ fn shrink_list(seconds: &str, file: &str, command: &[&str]) -> Done {
     let (our, their): (Vec<&str>, Vec<&str>) = (lines.ours.lines().collect(), lines.theirs.lines().collect());
     println!("# {} calls{}", calls.len(), if smallest { "" } else { "; time ran out, there may be fewer" });
     for (place, call) in calls.iter().enumerate() {
-        println!("{call:<24} # {}", call.name());
+        println!("{:<24} # {}", call.to_string(), call.name());
         if place + 1 == calls.len() {
             let told = compare::difference(&calls, place, &our, &their);
             told.lines().for_each(|line| println!("# {line}"));

@@ -12,12 +12,12 @@ const AT_PLACE: [usize; 2] = [VRAM_READ_LINEAR, SEQ_READ_LINEAR];
 
 impl Generator {
     pub fn direct(&mut self) {
-        for _ in 0..self.random.below(150) {
+        for _ in 0..20 + self.random.below(200) {
             if self.random.chance(4) {
                 self.set_seq_any(super::registers::MEMORY_MODE);
                 self.set_seq_any(super::registers::MAP_MASK);
             }
-            let refused = self.random.chance(8);
+            let refused = self.random.chance(10);
             self.direct_call(refused);
         }
     }

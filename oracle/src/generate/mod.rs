@@ -26,19 +26,18 @@ pub struct Generator {
     combinations: usize,
 }
 
-pub fn generate(seed: u64, wanted: usize) -> Vec<Call> {
-    eprintln!("generate: seed {seed}, {wanted} calls");
+/// A list; of several from one seed each begins at another part of the sweeps.
+pub fn generate(seed: u64, wanted: usize, part: usize, parts: usize) -> Vec<Call> {
+    eprintln!("generate: seed {seed}, part {part} of {parts}, {wanted} calls");
     let mut generator = Generator {
-        random: Random::new(seed),
+        random: Random::new(seed.wrapping_add((part as u64) << 32)),
         registers: Registers::new(),
         hot: [0; 12],
         calls: Vec::with_capacity(wanted + DIGEST_EVERY),
         progress: Progress::new("generate", wanted),
-        contents: 0,
-        combinations: 0,
+        contents: sweeps::CONTENTS * part / parts,
+        combinations: sweeps::COMBINATIONS * part / parts,
     };
-    generator.contents = generator.random.below(sweeps::CONTENTS);
-    generator.combinations = generator.random.below(sweeps::COMBINATIONS);
     let starts = (generator.contents, generator.combinations);
     while generator.calls.len() < wanted {
         generator.episode();
@@ -54,13 +53,13 @@ impl Generator {
             self.heat();
         }
         match self.random.below(100) {
-            0..=18 => self.contents(),
-            19..=58 => self.combinations(),
-            59..=78 => self.scene(),
-            79..=83 => self.ports(),
-            84..=94 => self.direct(),
-            95..=97 => self.long_run(),
-            98 => self.call(SEQ_RESET, &[]),
+            0..=14 => self.contents(),
+            15..=52 => self.combinations(),
+            53..=66 => self.scene(),
+            67..=72 => self.ports(),
+            73..=92 => self.direct(),
+            93 => self.long_run(),
+            94..=96 => self.call(SEQ_RESET, &[]),
             _ => self.call(GC_RESET, &[]),
         }
     }
