@@ -38,7 +38,10 @@ pub fn compare(calls: &[Call], ours: &[&str], theirs: &[&str]) -> Compared {
 
 impl Compared {
     pub fn told(&self) -> String {
-        format!("{} calls compared, {} of them whole states; {} refused by ours and not the Rust's", self.calls, self.states, self.skipped)
+        format!(
+            "{} calls compared, {} of them whole states; {} refused by ours and not the Rust's",
+            self.calls, self.states, self.skipped
+        )
     }
 }
 
@@ -49,11 +52,17 @@ pub fn difference(calls: &[Call], place: usize, ours: &[&str], theirs: &[&str]) 
     };
     let line = |lines: &[&str]| lines.get(place).copied().unwrap_or("(no line)").to_string();
     let (our, their) = (line(ours), line(theirs));
-    let mut text = format!("call {}: {call} ({})\n  ours: {our}\n  Rust: {their}\n", place + 1, call.name());
+    let side = if refused(&their) { "due " } else { "Rust" };
+    let mut text = format!("call {}: {call} ({})\n  ours: {our}\n  {side}: {their}\n", place + 1, call.name());
     if call.operation == DIGEST {
         text += &fields(&our, &their);
     }
     text
+}
+
+/// Whether the line is document 01's refusal, in place of a call that is not the Rust's.
+fn refused(line: &str) -> bool {
+    line.split(' ').nth(2).is_some_and(|answer| !matches!(answer, "0" | "2" | "panic"))
 }
 
 /// The numbers of two digests that differ, by name.

@@ -16,7 +16,8 @@ use std::io::{BufWriter, Write};
 use std::process::ExitCode;
 use std::time::Duration;
 
-const USAGE: &str = "oracle run LIST [OURS | --refusing]    the Rust's lines; without ours' lines every call is given to it
+const USAGE: &str =
+    "oracle run LIST [OURS | --refusing]    the Rust's lines; without ours' lines every call is given to it
 oracle generate SEED COUNT [PART PARTS] a list; of several from one seed, PART (from 0) of PARTS
 oracle compare LIST OURS THEIRS        the first difference of two files of lines
 oracle shrink SECONDS FILE COMMAND..   a smaller list than FILE's on which COMMAND and the Rust differ
