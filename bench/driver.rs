@@ -1,0 +1,62 @@
+//! What a call costs: the same loop over one call, for any machine. A count of instructions with many turns, less one with
+//! none, is the cost of the turns; the row `loop` is what the turns cost without the call.
+
+use std::hint::black_box;
+
+/// A controller, a sequencer and memory of 65,536 bytes a plane.
+pub trait Machine {
+    fn set_gc(&mut self, register: u8, byte: u8);
+    fn set_seq(&mut self, register: u8, byte: u8);
+    fn write(&mut self, address: usize, byte: u8);
+    fn read(&mut self, address: usize) -> u8;
+    /// A show's first and last pixel, added.
+    fn show(&mut self, offset: usize) -> u8;
+    /// A sum over planes and picture: memory is read after the turns.
+    fn sum(&self) -> u64;
+}
+
+pub const ROWS: [&str; 8] = [
+    "loop",
+    "mode 0 write",
+    "mode 1 write",
+    "mode 2 write",
+    "chain-four write",
+    "selected-plane read",
+    "compare read",
+    "show",
+];
+
+/// Runs a row and gives a number that depends on all of it.
+pub fn run<M: Machine>(machine: &mut M, row: usize, turns: usize) -> u64 {
+    set(machine, row);
+    let mut sum = 0;
+    for turn in 0..turns {
+        let offset = black_box(turn.wrapping_mul(7) & 0xFFFF);
+        sum += match row {
+            1..=4 => {
+                machine.write(0xA0000 + offset, turn as u8);
+                0
+            }
+            5 | 6 => u64::from(machine.read(0xA0000 + offset)),
+            7 => u64::from(machine.show(offset)),
+            _ => 0,
+        };
+    }
+    black_box(sum) + machine.sum()
+}
+
+/// Sequential, 64K window, Map Mask F, function `Xor`, rotate 3, Bit Mask 3C; something in the latches and in memory.
+fn set<M: Machine>(machine: &mut M, row: usize) {
+    machine.set_seq(4, 4);
+    machine.set_seq(2, 15);
+    machine.set_gc(6, 5);
+    machine.set_gc(3, 0x1B);
+    machine.set_gc(8, 0x3C);
+    machine.set_gc(2, 5);
+    machine.set_gc(7, 15);
+    machine.set_gc(4, 2);
+    machine.write(0xA0000, 0xA5);
+    machine.read(0xA0000);
+    machine.set_gc(5, [0, 0, 1, 2, 0, 0, 8, 0][row]);
+    machine.set_seq(4, if row == 4 { 12 } else { 4 });
+}

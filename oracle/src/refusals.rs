@@ -1,0 +1,37 @@
+//! Which calls leave the domain: document 01's refusals other than 2, for n = 65,536. They are no part of the Rust
+//! and judge nothing of it: they tell whether a call that ours refused is one that document 01 refuses.
+
+use crate::call::*;
+use crate::device::Device;
+
+pub const PLANE_LENGTH: usize = 65536;
+
+/// The refusal of a call, in the order 9, 4, 3, 5; 0 where there is none of these.
+pub fn refusal(device: &Device, call: &Call) -> u8 {
+    if call.operation == GC_SERIALIZE && matches!(device.gc.shift_mode_place(), 1 | 2) {
+        return 9;
+    }
+    if call.argument(Argument::Plane).is_some_and(|plane| plane > 3) {
+        return 4;
+    }
+    if call.argument(Argument::Offset).is_some_and(|offset| offset >= PLANE_LENGTH) {
+        return if shows(call) { 5 } else { 3 };
+    }
+    if call.argument(Argument::Place).is_some_and(|place| place >= 8 * PLANE_LENGTH) {
+        return 5;
+    }
+    0
+}
+
+/// Whether the call is handed an offset to show.
+fn shows(call: &Call) -> bool {
+    matches!(call.operation, VRAM_SERIALIZE_LINEAR | SEQ_SERIALIZE_LINEAR | GC_SERIALIZE)
+}
+
+/// The value of a refused call: 0, and for `map_address` both numbers 0.
+pub fn refused_value(call: &Call) -> &'static str {
+    match call.operation {
+        GC_MAP_ADDRESS => "0 0",
+        _ => "0",
+    }
+}
