@@ -1,7 +1,7 @@
 -- `plane_read` judges the offset as it stands and then reads: the machine's read of each kind, by `read-refused` and `read-done`.
 use borrow.Author.Needs.{needs}
 use Rattle.machine.specs.Memory.{mem}
-use Rattle.sequencer.proofs.Laws.{accepted, read-at-lt, read-refused, read-done}
+use Rattle.sequencer.proofs.DirectLaws.{accepted, read-at-lt, read-refused, read-done}
 use Rattle.sequencer.proofs.direct.plane_read.Statement.{statement}
 use Rattle.sequencer.proofs.direct.plane_read.Tie as tie
 
