@@ -1,22 +1,21 @@
 -- What the code's proofs cite: refusal 1 test by test, a pixel by shifts and masks, eight stores as one remaking, one byte stored as the machine's store.
-use Prim.Native.Nat.{ℕ, zero, suc, _+_, _*_, _-_, _/_, _%_, _^_, _<_, _≤_}
+use Prim.Native.Nat.{ℕ, zero, suc, _+_, _*_, _/_, _%_, _^_, _<_, _≤_}
 use native.Mathlib.Omega.{arith}
 use native.Mathlib.Numerals.{towards-suc}
 use mathlib.Core.Path.{_≡_, refl, sym, ap, _∙_}
 use mathlib.Core.Bool.{Bool, true, false, _&&_}
 use mathlib.Core.List.{List, [], _∷_}
 use lib.Bits.{bitAnd, bitOr, or-shifted-r}
-use lib.Dec.{eqb, ltb, leb}
+use lib.Dec.{eqb}
 use lib.ListN.{length, getD, set}
-use lib.Seq.{sets}
 use borrow.Author.Tests.{lt-ltb, le-ltb, le-leb, lt-leb, eq-eqb, ne-eqb}
-use Rattle.bits.specs.Bit.{bit, ofBits, byteOf}
+use Rattle.bits.specs.Bit.{bit, ofBits}
 use Rattle.bits.proofs.Laws.{bit-lt, is-of}
 use Rattle.bits.proofs.Bitwise.{bit-and, bit-or, shr-and-one}
 use Rattle.machine.specs.Memory.{Memory, mem, shape, sound, Shaped}
 use Rattle.machine.specs.declared.answer.DoneAnswer.{DoneAnswer}
 use Rattle.machine.specs.Answers.{one, said, outcome, doneSaid}
-use Rattle.machine.specs.Deeds.{known, plan, byte, eight, pixelOf, remade, storedByte, laid, stored, memoryAfter, valueOf, perform}
+use Rattle.machine.specs.Deeds.{known, plan, byte, pixelOf, remade, storedByte, laid, memoryAfter, valueOf, perform}
 use Rattle.machine.specs.Calls.{offsetNumber, planeNumber, placeNumber, andBit, orBit, storeOne, unmasked}
 use Rattle.machine.proofs.Laws.{perform-done, sound-shaped, offset-accepted, plane-accepted, stored-one}
 

@@ -2,13 +2,13 @@
 ghost use mathlib.Core.Path.{_≡_};
 ghost use mathlib.Core.List.{List, [], _∷_};
 ghost use Prim.Native.Nat.{ℕ, _<_, _≤_};
-ghost use lib.Dec.{eqb};
+ghost use lib.Dec.{eqb, ltb};
 ghost use lib.ListN.{length, getD};
 ghost use Rattle.bits.specs.Bit.{bit, ofBits};
 ghost use Rattle.machine.specs.Memory.{lent, before, after, shape, sound, Shaped};
 ghost use Rattle.machine.specs.Answers.{doneSaid, refusalNumber};
 ghost use Rattle.machine.specs.Deeds.{byte as byteOfPlane, laid, remade};
-ghost use Rattle.machine.specs.Calls.{planeNumber, offsetNumber, placeNumber, shownNumber};
+ghost use Rattle.machine.specs.Calls.{refuse, planeNumber, offsetNumber, placeNumber, shownNumber};
 use machine::DoneAnswer;
 use machine::PixelPlace;
 use machine::PlaneOffset;
@@ -67,17 +67,38 @@ pub fn judge_plane(
 ) -> DoneAnswer
     ensures { λ r. ⌜ doneSaid r .number ≡ planeNumber (shape (before p0 p1 p2 p3 picture)) plane (offset .0) ⌝ }
 {
+    let at = offset.0;
     if !shaped(p0, p1, p2, p3, picture) {
         return DoneAnswer::Refused(Refusal::Memory);
     }
     if plane > 3 {
         return DoneAnswer::Refused(Refusal::Plane);
     }
-    let at = offset.0;
     if at >= p0.len() {
         return DoneAnswer::Refused(Refusal::Offset);
     }
     DoneAnswer::Done
+}
+
+// Refusal 1, and then the one given where the offset is n or more.
+fn judge_at(
+    p0: &[u8],
+    p1: &[u8],
+    p2: &[u8],
+    p3: &[u8],
+    picture: &[u8],
+    offset: PlaneOffset,
+    refusal: Refusal,
+) -> DoneAnswer
+    ensures { λ r. ⌜ doneSaid r .number ≡ refuse (sound (shape (before p0 p1 p2 p3 picture))) 1 (refuse (ltb (offset .0) (length (now (p0 .entry)))) (refusalNumber refusal) 0) ⌝ }
+{
+    if !shaped(p0, p1, p2, p3, picture) {
+        return DoneAnswer::Refused(Refusal::Memory);
+    }
+    if offset.0 < p0.len() {
+        return DoneAnswer::Done;
+    }
+    DoneAnswer::Refused(refusal)
 }
 
 // Refusals 1, 3: of a call that names an offset.
@@ -91,14 +112,21 @@ pub fn judge_offset(
 ) -> DoneAnswer
     ensures { λ r. ⌜ doneSaid r .number ≡ offsetNumber (shape (before p0 p1 p2 p3 picture)) (offset .0) ⌝ }
 {
-    if !shaped(p0, p1, p2, p3, picture) {
-        return DoneAnswer::Refused(Refusal::Memory);
-    }
-    let at = offset.0;
-    if at >= p0.len() {
-        return DoneAnswer::Refused(Refusal::Offset);
-    }
-    DoneAnswer::Done
+    judge_at(p0, p1, p2, p3, picture, offset, Refusal::Offset)
+}
+
+// Refusals 1, 5: of a show.
+pub fn judge_shown(
+    p0: &[u8],
+    p1: &[u8],
+    p2: &[u8],
+    p3: &[u8],
+    picture: &[u8],
+    offset: PlaneOffset,
+) -> DoneAnswer
+    ensures { λ r. ⌜ doneSaid r .number ≡ shownNumber (shape (before p0 p1 p2 p3 picture)) (offset .0) ⌝ }
+{
+    judge_at(p0, p1, p2, p3, picture, offset, Refusal::Place)
 }
 
 // Refusals 1, 5: of a call that names a pixel place.
@@ -115,29 +143,7 @@ pub fn judge_place(
     if !shaped(p0, p1, p2, p3, picture) {
         return DoneAnswer::Refused(Refusal::Memory);
     }
-    let at = place.0;
-    if at >= picture.len() {
-        return DoneAnswer::Refused(Refusal::Place);
-    }
-    DoneAnswer::Done
-}
-
-// Refusals 1, 5: of a show.
-pub fn judge_shown(
-    p0: &[u8],
-    p1: &[u8],
-    p2: &[u8],
-    p3: &[u8],
-    picture: &[u8],
-    offset: PlaneOffset,
-) -> DoneAnswer
-    ensures { λ r. ⌜ doneSaid r .number ≡ shownNumber (shape (before p0 p1 p2 p3 picture)) (offset .0) ⌝ }
-{
-    if !shaped(p0, p1, p2, p3, picture) {
-        return DoneAnswer::Refused(Refusal::Memory);
-    }
-    let at = offset.0;
-    if at >= p0.len() {
+    if place.0 >= picture.len() {
         return DoneAnswer::Refused(Refusal::Place);
     }
     DoneAnswer::Done

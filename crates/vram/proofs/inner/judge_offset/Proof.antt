@@ -1,28 +1,16 @@
--- `judge_offset` answers the machine's `offsetNumber`, from `shaped`'s contract and the tests passed on the way.
-use mathlib.Core.Path.{sym, _∙_}
-use borrow.Author.Tests.{lt-ltb, le-ltb, not-true, not-false}
+-- `judge_offset` answers the machine's `offsetNumber`: `judge_at` with refusal 3.
 use borrow.Author.Needs.{needs}
 use Rattle.machine.specs.Calls.{offsetNumber}
 use Rattle.vram.proofs.inner.judge_offset.Statement.{statement}
 use Rattle.vram.proofs.inner.judge_offset.Tie as tie
 
-shaped-requires : tie.Need-shaped-requires
-shaped-requires c κs = search needs
+judge-at-requires : tie.Need-judge-at-requires
+judge-at-requires c κs = search needs
 
 returns : tie.Need-returns
 unfolding offsetNumber
 returns c =
-    simp (sym (c .before .shaped .ensures) ∙ not-true _ (c .if1 .taken))
-
-returns-2 : tie.Need-returns-2
-unfolding offsetNumber
-returns-2 c =
-    simp (sym (c .before .before .shaped .ensures) ∙ not-false _ (c .before .if1 .left), le-ltb _ _ (c .if2 .taken))
-
-returns-3 : tie.Need-returns-3
-unfolding offsetNumber
-returns-3 c =
-    simp (sym (c .before .before .shaped .ensures) ∙ not-false _ (c .before .if1 .left), lt-ltb _ _ (c .if2 .left))
+    c .judge-at .ensures
 
 pub judge-offset-spec : {M : Type 1} → statement M
-judge-offset-spec = tie.close (tie.spec shaped-requires returns returns-2 returns-3)
+judge-offset-spec = tie.close (tie.spec judge-at-requires returns)

@@ -16,10 +16,12 @@ returns c =
     simp (sym (c .before .shaped .ensures) ∙ not-true _ (c .if1 .taken))
 
 returns-2 : tie.Need-returns-2
-returns-2 c = place-out _ (sym (c .before .before .shaped .ensures) ∙ not-false _ (c .before .if1 .left)) _ (c .if2 .taken)
+returns-2 c =
+    place-out _ (sym (c .before .before .before .shaped .ensures) ∙ not-false _ (c .before .before .if1 .left)) _ (c .if2 .taken)
 
 returns-3 : tie.Need-returns-3
-returns-3 c = place-in _ (sym (c .before .before .shaped .ensures) ∙ not-false _ (c .before .if1 .left)) _ (c .if2 .left)
+returns-3 c =
+    place-in _ (sym (c .before .before .before .shaped .ensures) ∙ not-false _ (c .before .before .if1 .left)) _ (c .if2 .left)
 
 pub judge-place-spec : {M : Type 1} → statement M
 judge-place-spec = tie.close (tie.spec shaped-requires returns returns-2 returns-3)

@@ -1,28 +1,16 @@
--- `judge_shown` answers the machine's `shownNumber`, from `shaped`'s contract and the tests passed on the way.
-use mathlib.Core.Path.{sym, _∙_}
-use borrow.Author.Tests.{lt-ltb, le-ltb, not-true, not-false}
+-- `judge_shown` answers the machine's `shownNumber`: `judge_at` with refusal 5.
 use borrow.Author.Needs.{needs}
 use Rattle.machine.specs.Calls.{shownNumber}
 use Rattle.vram.proofs.inner.judge_shown.Statement.{statement}
 use Rattle.vram.proofs.inner.judge_shown.Tie as tie
 
-shaped-requires : tie.Need-shaped-requires
-shaped-requires c κs = search needs
+judge-at-requires : tie.Need-judge-at-requires
+judge-at-requires c κs = search needs
 
 returns : tie.Need-returns
 unfolding shownNumber
 returns c =
-    simp (sym (c .before .shaped .ensures) ∙ not-true _ (c .if1 .taken))
-
-returns-2 : tie.Need-returns-2
-unfolding shownNumber
-returns-2 c =
-    simp (sym (c .before .before .shaped .ensures) ∙ not-false _ (c .before .if1 .left), le-ltb _ _ (c .if2 .taken))
-
-returns-3 : tie.Need-returns-3
-unfolding shownNumber
-returns-3 c =
-    simp (sym (c .before .before .shaped .ensures) ∙ not-false _ (c .before .if1 .left), lt-ltb _ _ (c .if2 .left))
+    c .judge-at .ensures
 
 pub judge-shown-spec : {M : Type 1} → statement M
-judge-shown-spec = tie.close (tie.spec shaped-requires returns returns-2 returns-3)
+judge-shown-spec = tie.close (tie.spec judge-at-requires returns)
