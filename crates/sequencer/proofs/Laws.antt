@@ -16,7 +16,6 @@ use Rattle.bits.proofs.Decide.{agree1, agree2}
 use Rattle.machine.specs.declared.sequencer.Sequencer.{Sequencer}
 use Rattle.machine.specs.declared.sequencer.OddEvenMode.the-variants.{OddEven, Sequential}
 use Rattle.machine.specs.declared.sequencer.SequencerRegister.the-variants.{Invalid}
-use Rattle.machine.specs.Deeds.{byte}
 use Rattle.machine.specs.Sequencer.{selectsSeq, divisorOf, clockOf, fitsSeq, seqOddEven, isSeqOddEven, chainFour, inMask, storedAt, gcReadAt}
 use Rattle.machine.proofs.Laws.{both}
 use Rattle.sequencer.specs.Mask.{maskOf}
