@@ -44,6 +44,7 @@ refusalNumber Range = 8
 refusalNumber Shift = 9
 refusalNumber Room = 10
 
+-- what an answer carries, by kind
 pub data Value : Type 0 where
   -- a byte, a clock, a mark, an enum's place in its order; 0 where a call hands nothing back
   one : ℕ → Value
@@ -61,10 +62,12 @@ blank (two x y) = two 0 0
 blank (pixel x) = pixel 0
 blank (part l) = part []
 
+-- an answer: 0 or a refusal's number, and its value
 pub record Said : Type 0 where
   pub number : ℕ
   pub value : Value
 
+-- the answer of a number and a value
 abbrev pub said : ℕ → Value → Said
 said n v = record { number = n; value = v }
 
@@ -73,6 +76,7 @@ pub record Outcome (S : Type 0) : Type 0 where
   pub answer : Said
   pub next : S
 
+-- the outcome of an answer and what is left
 abbrev pub outcome : {S : Type 0} → Said → S → Outcome S
 outcome a s = record { answer = a; next = s }
 
@@ -90,16 +94,19 @@ mapNumber «A0000_64K» = 1
 mapNumber «B0000_32K» = 2
 mapNumber «B8000_32K» = 3
 
+-- `odd_even`: the place in `OddEvenModeComplement`
 abbrev pub oddEvenNumber : OddEvenModeComplement → ℕ
 oddEvenNumber Sequential = 0
 oddEvenNumber OddEven = 1
 
+-- `shift_mode`: the place in `ShiftMode`
 abbrev pub shiftNumber : ShiftMode → ℕ
 shiftNumber Standard = 0
 shiftNumber CGACompatible = 1
 shiftNumber Chain4 = 2
 shiftNumber Unused = 3
 
+-- a byte that was read; 0 where refused
 abbrev pub byteSaid : ByteAnswer → Said
 byteSaid (ByteDone x) = said 0 (one x)
 byteSaid (ByteRefused r) = said (refusalNumber r) (one 0)
@@ -109,34 +116,42 @@ abbrev pub pixelSaid : ByteAnswer → Said
 pixelSaid (ByteDone x) = said 0 (pixel x)
 pixelSaid (ByteRefused r) = said (refusalNumber r) (pixel 0)
 
+-- a store hands nothing back
 abbrev pub storeSaid : StoreAnswer → Said
 storeSaid StoreDone = said 0 (one 0)
 storeSaid (StoreRefused r) = said (refusalNumber r) (one 0)
 
+-- a register write and `deplane` hand nothing back
 abbrev pub doneSaid : DoneAnswer → Said
 doneSaid Done = said 0 (one 0)
 doneSaid (Refused r) = said (refusalNumber r) (one 0)
 
+-- a mark or a field that is set or clear: 1 or 0
 abbrev pub flagSaid : FlagAnswer → Said
 flagSaid (FlagDone b) = said 0 (one (bitOf b))
 flagSaid (FlagRefused r) = said (refusalNumber r) (one 0)
 
+-- `clock`: the character clock as a number
 abbrev pub clockSaid : ClockAnswer → Said
 clockSaid (ClockDone x) = said 0 (one x)
 clockSaid (ClockRefused r) = said (refusalNumber r) (one 0)
 
+-- `memory_map`: the map's place in its order
 abbrev pub mapSaid : MapAnswer → Said
 mapSaid (MapDone m) = said 0 (one (mapNumber m))
 mapSaid (MapRefused r) = said (refusalNumber r) (one 0)
 
+-- `odd_even`: the mode's place in its order
 abbrev pub oddEvenSaid : OddEvenAnswer → Said
 oddEvenSaid (OddEvenDone m) = said 0 (one (oddEvenNumber m))
 oddEvenSaid (OddEvenRefused r) = said (refusalNumber r) (one 0)
 
+-- `shift_mode`: the mode's place in its order
 abbrev pub shiftSaid : ShiftAnswer → Said
 shiftSaid (ShiftDone m) = said 0 (one (shiftNumber m))
 shiftSaid (ShiftRefused r) = said (refusalNumber r) (one 0)
 
+-- `map_address`: offset and a0; both numbers 0 where refused
 abbrev pub mappedSaid : MappedAnswer → Said
 mappedSaid (MappedDone o a0) = said 0 (two (o .0) (bitOf a0))
 mappedSaid (MappedRefused r) = said (refusalNumber r) (two 0 0)

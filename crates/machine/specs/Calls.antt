@@ -50,6 +50,7 @@ shownNumber h o = refuse (sound h) 1 (refuse (ltb o (size h)) 5 0)
 
 -- ---- calls on memory alone (vram.rs)
 
+-- the calls of the first table
 pub data VramCall : Type 0 where
   -- plane, offset
   readU8 peekU8 : ℕ → ℕ → VramCall
@@ -68,9 +69,11 @@ pub data VramCall : Type 0 where
 abbrev pub setBit : ℕ → ℕ → ℕ
 setBit new old = new
 
+-- `plane_and`: the byte's bit and the old one
 abbrev pub andBit : ℕ → ℕ → ℕ
 andBit new old = min new old
 
+-- `plane_or`: the byte's bit or the old one
 abbrev pub orBit : ℕ → ℕ → ℕ
 orBit new old = max new old
 
@@ -82,6 +85,7 @@ storeOne f p o w x = store o (λ q. eqb q p && w q) (λ q i l old. f (bit i x) o
 abbrev pub unmasked : ℕ → Bool
 unmasked p = true
 
+-- each call's refusals, deed and reply; direct plane reads answer the plane's byte at the offset
 unfoldable pub vramPlan : Shape → VramCall → Plan
 vramPlan h (readU8 p o) = plan (planeNumber h p o) rest (byteAt p o)
 vramPlan h (peekU8 p o) = plan (planeNumber h p o) rest (byteAt p o)
@@ -96,6 +100,7 @@ vramPlan h (deplane o) = plan (offsetNumber h o) (remake o) (known (one 0))
 
 -- ---- calls on the sequencer's record (sequencer.rs)
 
+-- the calls of the second table that are handed no memory
 pub data SequencerCall : Type 0 where
   seqReset seqClock seqSetClockChangePending seqPollClockChange seqReadAddress seqReadData : SequencerCall
   -- byte
@@ -136,6 +141,7 @@ seqNext s (seqWriteData x) = withSeqData x s
 
 -- ---- calls on the sequencer's record and memory
 
+-- the calls of the second table that are handed memory
 pub data DirectCall : Type 0 where
   -- plane, offset, a0
   seqCpuReadU8 seqPeekU8 seqGcReadU8 : ℕ → ℕ → Bool → DirectCall
@@ -159,6 +165,7 @@ directPlan s h (seqPlaneOr p o a x) = plan (refuse (fitsSeq s) 6 (planeNumber h 
 
 -- ---- calls on the controller's record (graphics_controller.rs)
 
+-- the calls of the third table that are handed no memory
 pub data GraphicsCall : Type 0 where
   gcReset gcChain gcChain4 gcMemoryMap gcOddEven gcShiftMode gcReadAddress gcReadData : GraphicsCall
   -- byte
@@ -187,6 +194,7 @@ isChain4 CGACompatible = false
 isChain4 Chain4 = true
 isChain4 Unused = false
 
+-- fields and registers as they are kept; `map_address`: the offset and a0
 unfoldable pub gcValue : GraphicsRegisters → GraphicsCall → Value
 gcValue r gcReset = one 0
 gcValue r gcChain = one (bitOf (chained r))
@@ -216,6 +224,7 @@ gcNext g (gcMapAddress x page) = g
 
 -- ---- calls on both records and memory: the processor's accesses, and the show
 
+-- the calls of the third table that are handed memory
 pub data CpuCall : Type 0 where
   -- address, page
   cpuRead cpuPeek : ℕ → Bool → CpuCall
@@ -249,6 +258,7 @@ pub record CpuPlan : Type 0 where
   pub ask : Plan
   pub counter : ℕ
 
+-- the plan of a call and its counter
 abbrev pub cpuPlanOf : Plan → ℕ → CpuPlan
 cpuPlanOf a n = record { ask = a; counter = n }
 
@@ -259,10 +269,12 @@ writeCounter Mode1 = 1
 writeCounter Mode2 = 2
 writeCounter Invalid = 3
 
+-- reads, by read mode
 abbrev pub readCounter : ReadMode → ℕ
 readCounter ReadSelectedPlane = 4
 readCounter ReadComparedPlanes = 5
 
+-- a peek and a show raise none
 abbrev pub noCounter : ℕ
 noCounter = 6
 
@@ -270,6 +282,7 @@ noCounter = 6
 abbrev pub raised : ℕ → ℕ → ℕ → ℕ
 raised n i x = pick (eqb n i) ((x + 1) % 2 ^ 32) x
 
+-- the counters after the one of a number was raised
 unfoldable pub counted : ℕ → GraphicsControllerStats → GraphicsControllerStats
 counted n c = record {
   «mode_0_writes» = raised n 0 (c .«mode_0_writes»);

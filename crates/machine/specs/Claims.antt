@@ -32,6 +32,7 @@ pub record Check : Type 1 where
   pub number : ℕ
   pub right : Type 0
 
+-- the check of a number and what keeps it away
 abbrev pub check : ℕ → Type 0 → Check
 check n p = record { number = n; right = p }
 
@@ -44,6 +45,7 @@ pub record RightGc (r : GraphicsRegisters) : Type 0 where
   pub dontCare : r .«color_dont_care» ≤ 15
   pub mapSelect : r .«read_map_select» ≤ 3
 
+-- 6, of the sequencer: Reset above 3, Map Mask above 15, the other three above 63
 pub record RightSeq (s : Sequencer) : Type 0 where
   pub reset : s .reset ≤ 3
   pub mapMask : s .«map_mask» ≤ 15
@@ -58,12 +60,15 @@ InWindow «A0000_64K» x = (0xA0000 ≤ x) × (x ≤ 0xAFFFF)
 InWindow «B0000_32K» x = ⊥
 InWindow «B8000_32K» x = (0xB8000 ≤ x) × (x ≤ 0xBFFFF)
 
+-- 6, of a call that is handed the controller's record
 abbrev pub forGc : GraphicsRegisters → Check
 forGc r = check 6 (RightGc r)
 
+-- 6, of a call that is handed the sequencer's record
 abbrev pub forSeq : Sequencer → Check
 forSeq s = check 6 (RightSeq s)
 
+-- 6, of a call that is handed both records
 abbrev pub forBoth : GraphicsRegisters → Sequencer → Check
 forBoth r s = check 6 (RightGc r × RightSeq s)
 
@@ -79,6 +84,7 @@ forShift r = check 9 ((shiftMode r ≢ Chain4) × (shiftMode r ≢ CGACompatible
 abbrev pub forPlane : ℕ → Check
 forPlane p = check 4 (p ≤ 3)
 
+-- 2, of an address and the current map
 abbrev pub forWindow : GraphicsRegisters → ℕ → Check
 forWindow r x = check 2 (InWindow (memoryMap r) x)
 
@@ -90,9 +96,11 @@ forOffset m o = check 3 (o < length (m .p0))
 abbrev pub forShown : Memory → ℕ → Check
 forShown m o = check 5 (o < length (m .p0))
 
+-- 5, of a pixel place
 abbrev pub forPlace : Memory → ℕ → Check
 forPlace m j = check 5 (j < 8 * length (m .p0))
 
+-- the first table's column of refusals
 unfoldable pub vramChecks : Memory → VramCall → List Check
 vramChecks m (readU8 p o) = forMemory m ∷ forPlane p ∷ forOffset m o ∷ []
 vramChecks m (peekU8 p o) = forMemory m ∷ forPlane p ∷ forOffset m o ∷ []
@@ -105,6 +113,7 @@ vramChecks m (planeAnd p o x) = forMemory m ∷ forPlane p ∷ forOffset m o ∷
 vramChecks m (planeOr p o x) = forMemory m ∷ forPlane p ∷ forOffset m o ∷ []
 vramChecks m (deplane o) = forMemory m ∷ forOffset m o ∷ []
 
+-- the second table's, of calls without memory
 unfoldable pub sequencerChecks : Sequencer → SequencerCall → List Check
 sequencerChecks s seqReset = []
 sequencerChecks s seqClock = forSeq s ∷ []
@@ -115,6 +124,7 @@ sequencerChecks s seqReadData = forSeq s ∷ []
 sequencerChecks s (seqWriteAddress x) = forSeq s ∷ []
 sequencerChecks s (seqWriteData x) = forSeq s ∷ []
 
+-- the second table's, of calls with memory
 unfoldable pub directChecks : Sequencer → Memory → DirectCall → List Check
 directChecks s m (seqCpuReadU8 p o a) = forSeq s ∷ forMemory m ∷ forPlane p ∷ forOffset m o ∷ []
 directChecks s m (seqPeekU8 p o a) = forSeq s ∷ forMemory m ∷ forPlane p ∷ forOffset m o ∷ []
@@ -125,6 +135,7 @@ directChecks s m (seqPlaneSet p o a x) = forSeq s ∷ forMemory m ∷ forPlane p
 directChecks s m (seqPlaneAnd p o a x) = forSeq s ∷ forMemory m ∷ forPlane p ∷ forOffset m o ∷ []
 directChecks s m (seqPlaneOr p o a x) = forSeq s ∷ forMemory m ∷ forPlane p ∷ forOffset m o ∷ []
 
+-- the third table's, of calls without memory
 unfoldable pub graphicsChecks : GraphicsRegisters → GraphicsCall → List Check
 graphicsChecks r gcReset = []
 graphicsChecks r gcChain = forGc r ∷ []
@@ -138,12 +149,14 @@ graphicsChecks r (gcWriteAddress x) = forGc r ∷ []
 graphicsChecks r (gcWriteData x) = forGc r ∷ []
 graphicsChecks r (gcMapAddress x page) = forGc r ∷ forWindow r x ∷ []
 
+-- the third table's, of calls with memory
 unfoldable pub cpuChecks : GraphicsRegisters → Sequencer → Memory → CpuCall → List Check
 cpuChecks r s m (cpuRead x page) = forBoth r s ∷ forMemory m ∷ forWindow r x ∷ forOffset m (offset r x page) ∷ []
 cpuChecks r s m (cpuPeek x page) = forBoth r s ∷ forMemory m ∷ forWindow r x ∷ forOffset m (offset r x page) ∷ []
 cpuChecks r s m (cpuWrite x page v) = forBoth r s ∷ forMemory m ∷ forWindow r x ∷ forOffset m (offset r x page) ∷ []
 cpuChecks r s m (serialize o) = forBoth r s ∷ forMemory m ∷ forShift r ∷ forShown m o ∷ []
 
+-- the refusals that a call looks for, in its order
 unfoldable pub checks : State → Call → List Check
 checks s (vram c) = vramChecks (s .memory) c
 checks s (sequencer c) = sequencerChecks (s .seq) c
@@ -169,12 +182,14 @@ inOrder (n ∷ ns) (c ∷ cs) = pick (eqb n (c .number)) (inOrder ns cs) (inOrde
 
 -- ---- `refused-stays`
 
+-- a refusal: what was handed in is left, and the value is blank
 pub record Stays {S : Type 0} (o : Outcome S) (old : S) : Type 0 where
   pub next : o .next ≡ old
   pub value : o .answer .value ≡ blank (o .answer .value)
 
 -- ---- `counters-sum`: the accepted reads and writes of the processor since a reset
 
+-- the sum of the six counters
 abbrev pub total : GraphicsControllerStats → ℕ
 total c = c .«mode_0_writes» + c .«mode_1_writes» + c .«mode_2_writes» + c .«mode_3_writes» + c .«mode_0_reads» + c .«mode_1_reads»
 
@@ -207,6 +222,7 @@ counts n s (direct c) = n
 counts n s (graphics c) = sinceReset n c
 counts n s (cpu c) = pick (eqb (step s (cpu c) .answer .number) 0) (n + accesses c) n
 
+-- the accesses after a list of calls
 unfoldable pub tally : ℕ → State → List Call → ℕ
 tally n s [] = n
 tally n s (c ∷ cs) = tally (counts n s c) (step s c .next) cs

@@ -9,6 +9,7 @@ use Rattle.bits.specs.Bit.{bit, ofBits, byteOf, isOne, bitOf, pick, every}
 use Rattle.machine.specs.Memory.{Memory, mem, plane, planes}
 use Rattle.machine.specs.Answers.{Value, one, pixel, part, Outcome, answered}
 
+-- what a call may do to latches and memory
 pub data Deed : Type 0 where
   -- nothing moves
   rest : Deed
@@ -19,6 +20,7 @@ pub data Deed : Type 0 where
   -- an offset's eight pixels are remade
   remake : ℕ → Deed
 
+-- what a call may answer from
 pub data Reply : Type 0 where
   -- a value known without the memory
   known : Value → Reply
@@ -37,6 +39,7 @@ pub record Plan : Type 0 where
   pub deed : Deed
   pub reply : Reply
 
+-- the plan of a number, a deed and a reply
 abbrev pub plan : ℕ → Deed → Reply → Plan
 plan n d r = record { number = n; deed = d; reply = r }
 
@@ -58,6 +61,7 @@ loaded m o = byte m 0 o ∷ byte m 1 o ∷ byte m 2 o ∷ byte m 3 o ∷ []
 unfoldable pub pixelOf : Memory → ℕ → ℕ → ℕ
 pixelOf m o i = ofBits 4 (λ p. bit (7 - i) (byte m p o))
 
+-- eight pixels, i from 0 to 7
 abbrev pub eight : (ℕ → ℕ) → List ℕ
 eight f = f 0 ∷ f 1 ∷ f 2 ∷ f 3 ∷ f 4 ∷ f 5 ∷ f 6 ∷ f 7 ∷ []
 
@@ -91,12 +95,14 @@ compared care colour l = byteOf (λ i. bitOf (every 4 (agrees care colour l i)))
 
 -- ---- a deed done, a reply given
 
+-- an accepted read loads the latches; nothing else moves them
 unfoldable pub latchesAfter : Deed → List ℕ → Memory → List ℕ
 latchesAfter rest l m = l
 latchesAfter (load o) l m = loaded m o
 latchesAfter (store o w f) l m = l
 latchesAfter (remake o) l m = l
 
+-- a store and a remaking move memory; nothing else does
 unfoldable pub memoryAfter : Deed → List ℕ → Memory → Memory
 memoryAfter rest l m = m
 memoryAfter (load o) l m = m

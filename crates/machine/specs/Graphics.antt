@@ -153,6 +153,7 @@ isOddEven OddEven = true
 
 -- ---- the record
 
+-- the controller's record of registers, counters and latches
 abbrev pub gcOf : GraphicsRegisters → GraphicsControllerStats → List ℕ → GraphicsController
 gcOf r c l = record { registers = r; stats = c; latches = l }
 

@@ -30,22 +30,27 @@ pub data Both {A : Type 0} (R : A → A → Type 0) : List A → List A → Type
   none : Both R [] []
   more : {x y : A} {l u : List A} → R x y → Both R l u → Both R (x ∷ l) (y ∷ u)
 
+-- alike but for plane k's bytes and bit k of each pixel; lengths agree for every plane
 pub record AlikeMemory (k : ℕ) (m n : Memory) : Type 0 where
   pub planes : (p : ℕ) → p ≢ k → plane m p ≡ plane n p
   pub lengths : (p : ℕ) → length (plane m p) ≡ length (plane n p)
   pub pictures : Both (Agree k) (m .picture) (n .picture)
 
+-- alike but for latch k
 unfoldable pub AlikeLatches : ℕ → List ℕ → List ℕ → Type 0
 AlikeLatches k l u = (p : ℕ) → p ≢ k → latch l p ≡ latch u p
 
+-- registers agree
 pub record AlikeRegisters (k : ℕ) (r q : GraphicsRegisters) : Type 0 where
   pub same : r ≡ q
 
+-- registers and counters agree, latches but for latch k
 pub record AlikeGc (k : ℕ) (g h : GraphicsController) : Type 0 where
   pub registers : AlikeRegisters k (g .registers) (h .registers)
   pub stats : g .stats ≡ h .stats
   pub latches : AlikeLatches k (g .latches) (h .latches)
 
+-- the whole state alike but for plane k
 pub record Alike (k : ℕ) (s t : State) : Type 0 where
   pub gc : AlikeGc k (s .gc) (t .gc)
   pub seq : s .seq ≡ t .seq
@@ -53,6 +58,7 @@ pub record Alike (k : ℕ) (s t : State) : Type 0 where
 
 -- ---- the premise, call by call
 
+-- a call that is answered 0
 abbrev pub accepted : State → Call → Type 0
 accepted s c = step s c .answer .number ≡ 0
 
@@ -85,6 +91,7 @@ unfoldable pub selectedNotFrom : ℕ → ReadMode → GraphicsRegisters → ℕ 
 selectedNotFrom k ReadSelectedPlane r x = selectedPlane r x ≢ k
 selectedNotFrom k ReadComparedPlanes r x = Unit {0}
 
+-- of the processor's accesses, only a selected-plane read answers from a selected plane
 unfoldable pub cpuNotFrom : ℕ → GraphicsRegisters → CpuCall → Type 0
 cpuNotFrom k r (cpuRead x page) = selectedNotFrom k (readMode r) r x
 cpuNotFrom k r (cpuPeek x page) = Unit {0}
@@ -104,12 +111,14 @@ unfoldable pub comparedWithout : ℕ → ReadMode → GraphicsRegisters → Type
 comparedWithout k ReadSelectedPlane r = Unit {0}
 comparedWithout k ReadComparedPlanes r = bit k (r .«color_dont_care») ≡ 0
 
+-- of the processor's accesses, only a read can compare
 unfoldable pub cpuWithout : ℕ → GraphicsRegisters → CpuCall → Type 0
 cpuWithout k r (cpuRead x page) = comparedWithout k (readMode r) r
 cpuWithout k r (cpuPeek x page) = Unit {0}
 cpuWithout k r (cpuWrite x page v) = Unit {0}
 cpuWithout k r (serialize o) = Unit {0}
 
+-- each accepted compare read has k's Color Don't Care bit clear
 unfoldable pub ComparesWithout : ℕ → State → Call → Type 0
 ComparesWithout k s (vram c) = Unit {0}
 ComparesWithout k s (sequencer c) = Unit {0}
@@ -124,6 +133,7 @@ cpuNoPeek k (cpuPeek x page) = 0 ≢ k
 cpuNoPeek k (cpuWrite x page v) = Unit {0}
 cpuNoPeek k (serialize o) = Unit {0}
 
+-- where k is 0, no call is a peek
 unfoldable pub NoPeek : ℕ → Call → Type 0
 NoPeek k (vram c) = Unit {0}
 NoPeek k (sequencer c) = Unit {0}
@@ -156,6 +166,7 @@ pub data AlikeValue (k : ℕ) : Value → Value → Type 0 where
   pixels : {x y : ℕ} → Agree k x y → AlikeValue k (pixel x) (pixel y)
   parts : {l u : List ℕ} → Both (Agree k) l u → AlikeValue k (part l) (part u)
 
+-- answers and refusals agree, values but for bit k of pixels
 pub record AlikeSaid (k : ℕ) (a b : Said) : Type 0 where
   pub number : a .number ≡ b .number
   pub value : AlikeValue k (a .value) (b .value)

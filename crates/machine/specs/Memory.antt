@@ -8,6 +8,7 @@ use lib.ListN.{length}
 use denote.Ref.{RefT, now}
 use denote.Triple.Both.{Both}
 
+-- the four planes and the picture, as lists of bytes
 pub record Memory : Type 0 where
   pub p0 : List ℕ
   pub p1 : List ℕ
@@ -15,6 +16,7 @@ pub record Memory : Type 0 where
   pub p3 : List ℕ
   pub picture : List ℕ
 
+-- the memory of five lists
 abbrev pub mem : List ℕ → List ℕ → List ℕ → List ℕ → List ℕ → Memory
 mem a b c d e = record { p0 = a; p1 = b; p2 = c; p3 = d; picture = e }
 
@@ -35,6 +37,7 @@ pub record Shape : Type 0 where
   pub bytes : ℕ → ℕ
   pub pixels : ℕ
 
+-- the lengths of a memory
 abbrev pub shape : Memory → Shape
 shape m = record { bytes = λ p. length (plane m p); pixels = length (m .picture) }
 
@@ -60,11 +63,14 @@ pub record Shaped (m : Memory) : Type 0 where
 abbrev pub lent : RefT (List ℕ) → RefT (List ℕ) → RefT (List ℕ) → RefT (List ℕ) → RefT (List ℕ) → Memory
 lent a b c d e = mem (now a) (now b) (now c) (now d) (now e)
 
+-- a lent slice: what it holds where a call begins and where it returns
 abbrev pub Slice : Type 0
 Slice = Both (RefT (List ℕ)) (RefT (List ℕ))
 
+-- where a call begins
 abbrev pub before : Slice → Slice → Slice → Slice → Slice → Memory
 before a b c d e = lent (a .entry) (b .entry) (c .entry) (d .entry) (e .entry)
 
+-- where a call returns
 abbrev pub after : Slice → Slice → Slice → Slice → Slice → Memory
 after a b c d e = lent (a .exit) (b .exit) (c .exit) (d .exit) (e .exit)

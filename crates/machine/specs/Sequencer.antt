@@ -34,6 +34,7 @@ withSeqAddress x s = record {
 
 -- ---- the data registers
 
+-- the number of a register; `Invalid` has one that no data reach
 abbrev pub seqNumber : SequencerRegister → ℕ
 seqNumber Reset = 0
 seqNumber ClockingMode = 1
@@ -112,6 +113,7 @@ fitsSeq s = leb (s .reset) 3 && (leb (s .«map_mask») 15 && (leb (s .«clocking
 unfoldable pub seqOddEven : Sequencer → OddEvenMode
 seqOddEven s = getD (OddEven ∷ Sequential ∷ []) (field 2 1 (s .«memory_mode»)) OddEven
 
+-- whether the sequencer's odd/even is on
 abbrev pub isSeqOddEven : OddEvenMode → Bool
 isSeqOddEven OddEven = true
 isSeqOddEven Sequential = false
