@@ -1,0 +1,12 @@
+pub mod Broken
+pub mod Reading
+pub mod Sizes
+pub mod Judging
+pub mod RoundTrips
+pub mod Texts
+pub mod Performing
+pub mod Lining
+pub mod Runs
+pub mod Room
+pub mod Determined
+pub mod Example

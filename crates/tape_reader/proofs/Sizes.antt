@@ -1,0 +1,122 @@
+-- A number and a record take at least one byte, and no more than there are; a good argument is in range.
+use Prim.Native.Nat.{ℕ, suc, _+_, _-_, _*_, _/_, _≤_, _<_}
+use native.Mathlib.Omega.{arith}
+use mathlib.Core.Path.{_≡_, refl, sym, subst, _∙_}
+use mathlib.Core.Bool.{Bool, true, false}
+use mathlib.Core.List.{List, [], _∷_}
+use lib.Dec.{eqb, ltb, leb}
+use lib.ListN.{length, drop, length-drop}
+use borrow.Author.Tests.{leb-true}
+use Rattle.bits.specs.Bit.{pick}
+use Rattle.tape_reader.specs.declared.number.Number.{Number}
+use Rattle.tape_reader.specs.declared.number.Number.the-variants.{Value, Ended, Damaged}
+use Rattle.tape_reader.specs.declared.records.Command.{Command}
+use Rattle.tape_reader.specs.declared.records.Argument.{Argument}
+use Rattle.tape_reader.specs.declared.records.Argument.the-variants.{Good, Bad}
+use Rattle.tape_reader.specs.declared.records.Record.{Record}
+use Rattle.tape_reader.specs.declared.records.Record.the-variants.{Whole, Broken}
+use Rattle.tape_reader.specs.Numbers.{limit32, onTop, lastGroup, groups, numberOf}
+use Rattle.tape_reader.specs.Records.{judged, argumentOf, next, thirdOf, secondOf, firstOf, started, recordOf}
+
+-- a property of both branches of a choice
+pub either : {A : Type 0} (P : A → Type 0) (t : Bool) {x y : A} → (t ≡ true → P x) → (t ≡ false → P y) → P (pick t x y)
+either P true f g = f refl
+either P false f g = g refl
+
+-- ---- numbers
+
+-- at least one byte, at most k
+abbrev pub Within : ℕ → Number → Type 0
+Within k (Value v n) = (0 < n) × (n ≤ k)
+Within k Ended = Unit
+Within k Damaged = Unit
+
+on-top-within : (low weight k : ℕ) (x : Number) → Within k x → Within (suc k) (onTop low weight 1 x)
+unfolding onTop
+on-top-within low weight k (Value v n) h = (omega arith, omega arith)
+on-top-within low weight k Ended h = tt
+on-top-within low weight k Damaged h = tt
+
+last-within : (first : Bool) (k b : ℕ) → 0 < k → Within k (lastGroup first b)
+unfolding lastGroup
+last-within first k b h =
+    either (Within k) (eqb b 0) (λ e. either (Within k) first (λ e. (omega arith, omega arith)) (λ e. tt)) (λ e. (omega arith, omega arith))
+
+groups-within : (first : Bool) (limit : ℕ) (s : List ℕ) → Within (length s) (groups first limit s)
+unfolding groups
+groups-within first limit [] = tt
+groups-within first limit (b ∷ s) =
+    either (Within (length (b ∷ s))) (leb limit b) (λ e. tt) λ e.
+    either (Within (length (b ∷ s))) (ltb b 128) (λ e. last-within first _ b (omega arith)) λ e.
+    on-top-within (b - 128) 128 (length s) _ (groups-within false (limit / 128) s)
+
+number-within : (limit : ℕ) (s : List ℕ) → Within (length s) (numberOf limit s)
+unfolding numberOf
+number-within limit s = groups-within true limit s
+
+-- ---- arguments
+
+-- in range, at most k bytes
+abbrev pub Sound : ℕ → ℕ → Argument → Type 0
+Sound most k (Good v n) = (v ≤ most) × (n ≤ k)
+Sound most k (Bad f) = Unit
+
+judged-sound : (most k : ℕ) (x : Number) → Within k x → Sound most k (judged most x)
+unfolding judged
+judged-sound most k (Value v n) h = either (Sound most k) (leb v most) (λ e. (leb-true v most e, h .1)) (λ e. tt)
+judged-sound most k Ended h = tt
+judged-sound most k Damaged h = tt
+
+argument-sound : (most : ℕ) (s : List ℕ) → Sound most (length s) (argumentOf most s)
+unfolding argumentOf
+argument-sound most s = either (Sound most (length s)) (eqb most 0) (λ e. (omega arith, omega arith)) (λ e. judged-sound most (length s) _ (number-within limit32 s))
+
+-- ---- records
+
+abbrev pub Taken : ℕ → Record → Type 0
+Taken k (Whole f n) = (0 < n) × (n ≤ k)
+Taken k (Broken o f) = Unit
+
+next-taken : (o most k m : ℕ) (x : Argument) (then : ℕ → ℕ → Record) → Sound most m x → ((v n : ℕ) → n ≤ m → Taken k (then v n)) → Taken k (next o x then)
+unfolding next
+next-taken o most k m (Good v n) then h f = f v n (h .1)
+next-taken o most k m (Bad e) then h f = tt
+
+third-taken : (s : List ℕ) (o a b at : ℕ) → 0 < at → at ≤ length s → Taken (length s) (thirdOf s o a b at)
+unfolding thirdOf
+third-taken s o a b at p h = next-taken o _ _ _ _ _ (argument-sound _ (drop at s)) λ c n k. (omega arith, omega (arith, length-drop at s))
+
+second-taken : (s : List ℕ) (o a at : ℕ) → 0 < at → at ≤ length s → Taken (length s) (secondOf s o a at)
+unfolding secondOf
+second-taken s o a at p h = next-taken o _ _ _ _ _ (argument-sound _ (drop at s)) λ b n k. third-taken s o a b (at + n) (omega arith) (omega (arith, length-drop at s))
+
+first-taken : (s : List ℕ) (o at : ℕ) → 0 < at → at ≤ length s → Taken (length s) (firstOf s o at)
+unfolding firstOf
+first-taken s o at p h =
+    either (Taken (length s)) (leb o 8) (λ e.
+    next-taken o _ _ _ _ _ (argument-sound _ (drop at s)) λ a n k. second-taken s o a (at + n) (omega arith) (omega (arith, length-drop at s))) (λ e. tt)
+
+started-taken : (s : List ℕ) (x : Number) → Within (length s) x → Taken (length s) (started s x)
+unfolding started
+started-taken s (Value v n) h = first-taken s v n (h .0) (h .1)
+started-taken s Ended h = tt
+started-taken s Damaged h = tt
+
+record-taken : (s : List ℕ) → Taken (length s) (recordOf s)
+unfolding recordOf
+record-taken s = started-taken s _ (number-within limit32 s)
+
+-- ---- as the code's answers have it
+
+pub number-fits : (limit from : ℕ) (s : List ℕ) {r : Number} {v n : ℕ} → r ≡ numberOf limit (drop from s) → r ≡ Value v n → (0 < n) × (from + n ≤ length s)
+number-fits limit from s {n = n} p q =
+    let k : (0 < n) × (n ≤ length (drop from s)) = subst (Within (length (drop from s))) (sym p ∙ q) (number-within limit (drop from s)) in
+    (k .0, omega (arith, k .0, k .1, length-drop from s))
+
+pub argument-fits : (most at : ℕ) (s : List ℕ) {r : Argument} {v n : ℕ} → at ≤ length s → r ≡ argumentOf most (drop at s) → r ≡ Good v n → (v ≤ most) × (at + n ≤ length s)
+argument-fits most at s {v = v} {n = n} h p q =
+    let k : (v ≤ most) × (n ≤ length (drop at s)) = subst (Sound most (length (drop at s))) (sym p ∙ q) (argument-sound most (drop at s)) in
+    (k .0, omega (arith, k .1, length-drop at s))
+
+pub record-fits : (s : List ℕ) {r : Record} {f : Command} {n : ℕ} → r ≡ recordOf s → r ≡ Whole f n → (0 < n) × (n ≤ length s)
+record-fits s p q = subst (Taken (length s)) (sym p ∙ q) (record-taken s)

@@ -1,0 +1,58 @@
+-- `read_argument` judges the number that `read_number` read, damage before range.
+use borrow.Author.Needs.{needs}
+use borrow.Author.Tests.{eq-eqb, le-leb, lt-leb}
+use Rattle.tape_reader.specs.Records.{judged, argumentOf}
+use Rattle.tape_reader.proofs.Judging.{judged-so}
+use Rattle.tape_reader.proofs.records.read_argument.Statement.{statement}
+use Rattle.tape_reader.proofs.records.read_argument.Tie as tie
+
+returns : tie.Need-returns
+unfolding argumentOf
+returns c =
+    rw (eq-eqb _ _ (c .if1 .taken))
+
+read-number-requires : tie.Need-read-number-requires
+read-number-requires c κs = search needs
+
+enum-told : tie.Need-enum-told
+enum-told c = search needs
+
+enum-told-2 : tie.Need-enum-told-2
+enum-told-2 c = search needs
+
+enum-known-value : tie.Need-enum-known-value
+enum-known-value c = search needs
+
+returns-2 : tie.Need-returns-2
+unfolding judged
+returns-2 c =
+    judged-so _ _ (c .before .before .before .if1 .left) (c .before .before .read-number .ensures) (c .enum-told .given .1)
+
+returns-3 : tie.Need-returns-3
+unfolding judged
+returns-3 c =
+    judged-so _ _ (c .before .before .before .if1 .left) (c .before .before .read-number .ensures) (c .enum-told2 .given .1)
+
+returns-4 : tie.Need-returns-4
+unfolding judged
+returns-4 c =
+    let e = judged-so _ _ (c .before .before .before .before .before .if1 .left) (c .before .before .before .before .read-number .ensures) (c .before .before .value .given .1) in rw (le-leb _ _ (c .if2 .taken)) at e
+
+returns-5 : tie.Need-returns-5
+unfolding judged
+returns-5 c =
+    let e = judged-so _ _ (c .before .before .before .before .before .if1 .left) (c .before .before .before .before .read-number .ensures) (c .before .before .value .given .1) in rw (lt-leb _ _ (c .if2 .left)) at e
+
+pub read-argument-spec : {M : Type 1} → statement M
+read-argument-spec =
+    tie.close
+    (tie.spec
+    returns
+    read-number-requires
+    enum-told
+    enum-told-2
+    enum-known-value
+    returns-2
+    returns-3
+    returns-4
+    returns-5)

@@ -1,0 +1,61 @@
+-- `second_argument` goes on to the third, or breaks the record: from `read_argument`.
+use borrow.Author.Needs.{needs}
+use mathlib.Core.Path.{_∙_}
+use native.Mathlib.Omega.{arith}
+use Rattle.tape_reader.specs.Records.{next}
+use Rattle.tape_reader.proofs.Judging.{second-so}
+use Rattle.tape_reader.proofs.Sizes.{argument-fits}
+use Rattle.tape_reader.proofs.records.second_argument.Statement.{statement}
+use Rattle.tape_reader.proofs.records.second_argument.Tie as tie
+
+add-read-argument : tie.Need-add-read-argument
+add-read-argument c =
+    omega (arith, c .before .pre .2)
+
+greatest-requires : tie.Need-greatest-requires
+greatest-requires c κs = search needs
+
+read-argument-requires : tie.Need-read-argument-requires
+read-argument-requires c κs = search needs
+
+enum-known-fault : tie.Need-enum-known-fault
+enum-known-fault c = search needs
+
+broken-requires : tie.Need-broken-requires
+broken-requires c κs = search needs
+
+enum-known-value : tie.Need-enum-known-value
+enum-known-value c = search needs
+
+add-third-argument : tie.Need-add-third-argument
+add-third-argument c =
+    let h = argument-fits _ _ _ (c .before .before .before .before .before .before .pre .2) (c .before .before .before .read-argument .ensures) (c .before .value .given .1) in omega (arith, h .1)
+
+third-argument-requires : tie.Need-third-argument-requires
+third-argument-requires c κs =
+    let h = argument-fits _ _ _ (c .before .before .before .before .before .before .pre .2) (c .before .before .before .read-argument .ensures) (c .before .value .given .1) in (c .before .before .before .before .before .before .pre .0, c .before .before .before .before .before .before .pre .1, rw (c .before .before .before .before .greatest .ensures) at (h .0), omega (arith, h .1))
+
+returns : tie.Need-returns
+unfolding next
+returns c =
+    c .broken .ensures ∙ second-so (c .before .before .before .before .before .before .before .args .tape .now) (c .before .before .before .before .before .before .before .args .from) (c .before .before .before .before .before .before .before .args .operation) (c .before .before .before .before .before .before .before .args .a) (c .before .before .before .before .before .before .before .args .at) (c .before .before .before .before .before .greatest .ensures) (c .before .before .before .before .read-argument .ensures) (c .before .before .fault .given .1)
+
+returns-2 : tie.Need-returns-2
+unfolding next
+returns-2 c =
+    c .third-argument .ensures ∙ second-so (c .before .before .before .before .before .before .before .args .tape .now) (c .before .before .before .before .before .before .before .args .from) (c .before .before .before .before .before .before .before .args .operation) (c .before .before .before .before .before .before .before .args .a) (c .before .before .before .before .before .before .before .args .at) (c .before .before .before .before .before .greatest .ensures) (c .before .before .before .before .read-argument .ensures) (c .before .before .value .given .1)
+
+pub second-argument-spec : {M : Type 1} → statement M
+second-argument-spec =
+    tie.close
+    (tie.spec
+    add-read-argument
+    greatest-requires
+    read-argument-requires
+    enum-known-fault
+    broken-requires
+    enum-known-value
+    add-third-argument
+    third-argument-requires
+    returns
+    returns-2)

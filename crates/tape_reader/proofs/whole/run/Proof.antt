@@ -1,0 +1,60 @@
+-- `run` judges the room, and plays: from `enough-room` and `play`.
+use Prim.Native.Nat.{_*_, _<_, _≤_}
+use borrow.Author.Needs.{needs}
+use borrow.Author.Tests.{le-leb, lt-leb}
+use lib.ListN.{length}
+use native.Mathlib.Omega.{arith}
+use Rattle.machine.specs.Memory.{mem}
+use Rattle.machine.specs.Step.{state}
+use Rattle.tape_reader.specs.Run.{longest, runOf}
+use Rattle.tape_reader.proofs.Room.{enough-room}
+use Rattle.tape_reader.proofs.whole.run.Statement.{statement}
+use Rattle.tape_reader.proofs.whole.run.Tie as tie
+
+returns : tie.Need-returns
+unfolding runOf
+returns c =
+    let h : length (c .before .before .before .before .before .before .before .before .args .out .now) < longest * length (c .before .before .before .before .before .before .before .before .args .tape .now) = omega (arith, c .if1 .taken) in
+    rw (lt-leb _ _ h)
+
+play-requires : tie.Need-play-requires
+play-requires c κs =
+    enough-room (state (c .before .before .before .before .before .before .before .before .before .before .before .before .before .before .args .gc) (c .before .before .before .before .before .before .before .before .before .before .before .before .before .before .args .seq) (mem (c .before .before .before .before .before .before .before .before .before .before .before .before .before .before .args .p0 .now) (c .before .before .before .before .before .before .before .before .before .before .before .before .before .before .args .p1 .now) (c .before .before .before .before .before .before .before .before .before .before .before .before .before .before .args .p2 .now) (c .before .before .before .before .before .before .before .before .before .before .before .before .before .before .args .p3 .now) (c .before .before .before .before .before .before .before .before .before .before .before .before .before .before .args .picture .now))) (c .before .before .before .before .before .before .before .before .before .before .before .before .before .before .args .tape .now) (length (c .before .before .before .before .before .before .before .before .before .before .before .before .before .before .args .out .now)) (omega (arith, c .before .before .before .before .before .before .if1 .left))
+
+same-length : tie.Need-same-length
+same-length c = search needs
+
+same-length-2 : tie.Need-same-length-2
+same-length-2 c = search needs
+
+same-length-3 : tie.Need-same-length-3
+same-length-3 c = search needs
+
+same-length-4 : tie.Need-same-length-4
+same-length-4 c = search needs
+
+same-length-5 : tie.Need-same-length-5
+same-length-5 c = search needs
+
+same-length-6 : tie.Need-same-length-6
+same-length-6 c = search needs
+
+returns-2 : tie.Need-returns-2
+unfolding runOf
+returns-2 c =
+    let h : longest * length (c .before .before .before .before .before .before .before .before .before .before .before .before .before .before .before .before .before .before .before .before .before .before .before .before .before .before .before .args .tape .now) ≤ length (c .before .before .before .before .before .before .before .before .before .before .before .before .before .before .before .before .before .before .before .before .before .before .before .before .before .before .before .args .out .now) = omega (arith, c .before .before .before .before .before .before .before .before .before .before .before .before .before .before .before .before .before .before .before .if1 .left) in
+    rw (le-leb _ _ h) (c .before .before .before .before .before .before .before .before .before .before .before .before .play .ensures)
+
+pub run-spec : {M : Type 1} → statement M
+run-spec =
+    tie.close
+    (tie.spec
+    returns
+    play-requires
+    same-length
+    same-length-2
+    same-length-3
+    same-length-4
+    same-length-5
+    same-length-6
+    returns-2)

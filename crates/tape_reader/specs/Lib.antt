@@ -1,0 +1,7 @@
+pub mod Numbers
+pub mod Records
+pub mod Told
+pub mod Text
+pub mod Performs
+pub mod Lines
+pub mod Run
