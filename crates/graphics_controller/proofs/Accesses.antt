@@ -30,6 +30,7 @@ use Rattle.machine.specs.Deeds.{byte, latch, loaded, latchesAfter, memoryAfter,
 use Rattle.machine.specs.Calls.{refuse, fitsBoth, accessNumber, shows, showNumber, CpuPlan, counted, readCounter, writeCounter, readReply, writeDeed, cpuPlan, cpuRead, cpuPeek, cpuWrite, serialize}
 use Rattle.machine.specs.Step.{device, lifted, cpuPerform, cpuStep}
 use Rattle.machine.proofs.Laws.{both, refuse-0, sound-shaped, AtOffset, answered-refused}
+use Rattle.graphics_controller.proofs.Held.{map-select-fits}
 use Rattle.graphics_controller.specs.Reads.{readByte}
 
 -- ---- what an answer says of an address
@@ -112,17 +113,6 @@ show-accepted r s m o e =
     let d = refuse-0 _ 4 _ (c .1) in
     record { shaped = sound-shaped m (b .0); offset = ltb-true _ _ (d .0) }
 
--- what a read asks of the registers
-pub read-fits : (r : GraphicsRegisters) → fitsGc r ≡ true → (r .«read_map_select» ≤ 3) × ((r .«color_dont_care» ≤ 15) × (r .«color_compare» ≤ 15))
-unfolding fitsGc
-read-fits r e =
-    let a = both (leb (r .«register_select_byte») 15) _ e in
-    let b = both (leb (r .«set_reset») 15) _ (a .1) in
-    let c = both (leb (r .«enable_set_reset») 15) _ (b .1) in
-    let d = both (leb (r .«color_compare») 15) _ (c .1) in
-    let f = both (leb (r .«color_dont_care») 15) _ (d .1) in
-    (leb-true _ _ (f .1), (leb-true _ _ (f .0), leb-true _ _ (d .0)))
-
 -- ---- a plan carried out
 
 module _ (a : CpuPlan) (g : GraphicsController) (m : Memory) where
@@ -189,7 +179,7 @@ module _ (g : GraphicsController) (s : Sequencer) (m : Memory) (x : ℕ) (page :
       → outcome (said 0 (one y)) (device (gcOf (g .registers) c l) m) ≡ cpuStep g s m (cpuRead x page)
   unfolding cpuStep cpuPlan latchesAfter memoryAfter
   read-done o w c l y e eo ew ec el ey =
-      let f : g .registers .«read_map_select» ≤ 3 = read-fits (g .registers) (access-fits (g .registers) s (shape m) x page e .0) .0 in
+      let f : g .registers .«read_map_select» ≤ 3 = map-select-fits (g .registers) (access-fits (g .registers) s (shape m) x page e .0) in
       let v : l ≡ loaded m at = el ∙ ap (loaded m) eo in
       cpu-done (cpuPlan (g .registers) s (shape m) (cpuRead x page)) g m (gcOf (g .registers) c l) m (one y) e
       (rw (ec, ew, v)) refl

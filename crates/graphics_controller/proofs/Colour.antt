@@ -1,60 +1,57 @@
--- The compare read: one test of a pixel's four bits at once is the machine's rule, plane by plane.
-use Prim.Native.Nat.{ℕ, _+_, _*_, _/_, _%_, _^_, _≤_, _<_}
+-- The compare read: an exclusive or with one bit spread, and four planes' bytes joined, are the machine's rule bit by bit.
+use Prim.Native.Nat.{ℕ, _-_, _<_, min}
 use native.Mathlib.Omega.{arith}
-use mathlib.Core.Path.{_≡_, sym, ap, _∙_}
+use mathlib.Core.Path.{_≡_, refl, sym, ap, ap₂, _∙_}
 use mathlib.Core.Bool.{Bool, true, false}
 use mathlib.Core.List.{List}
-use borrow.Author.Tests.{eq-eqb, ne-eqb}
-use lib.Dec.{eqb, lit<}
-use lib.Bits.{bitAnd, bitOr}
-use Rattle.bits.specs.Bit.{bit, ofBits, isOne, bitOf, pick, every}
-use Rattle.bits.proofs.Laws.{bit-lt, bit-of, of-lt}
-use Rattle.bits.proofs.Bitwise.{four-bits, more-set, more-clear}
-use Rattle.bits.proofs.Decide.{agree3}
-use Rattle.machine.specs.Deeds.{latch}
+use lib.Bits.{bitAnd, bitXor, differ}
+use lib.Dec.{eqb}
+use Rattle.bits.specs.Bit.{bit, byteOf, isOne, bitOf, pick, every}
+use Rattle.bits.proofs.Laws.{bit-lt, bit-of, of-lt, is-of}
+use Rattle.bits.proofs.Bitwise.{bit-and, bit-xor, bit-flip, bit-spread, and8, xor8, flip8}
+use Rattle.bits.proofs.Decide.{agree2}
+use Rattle.machine.specs.Deeds.{latch, agrees, compared}
 
--- four planes' bits, as one number
-abbrev pub pixel : List ℕ → ℕ → ℕ
-pixel l i = ofBits 4 (λ p. bit i (latch l p))
+-- ---- one plane
 
--- as the code puts it together
-pub pixel-is : (l : List ℕ) (i : ℕ) → bitOr (bitOr (bitOr (bitAnd (latch l 0 / 2 ^ i) 1) (bitAnd (latch l 1 / 2 ^ i) 1 * 2 % 256)) (bitAnd (latch l 2 / 2 ^ i) 1 * 4 % 256)) (bitAnd (latch l 3 / 2 ^ i) 1 * 8 % 256) ≡ pixel l i
-unfolding ofBits
-pixel-is l i = four-bits (latch l 0) (latch l 1) (latch l 2) (latch l 3) i
+same : (a b : ℕ) → a < 2 → b < 2 → 1 - differ a b ≡ bitOf (eqb a b)
+same = agree2 2 2 (λ a b. 1 - differ a b) (λ a b. bitOf (eqb a b)) tt
 
--- the rule for a colour of four bits
-abbrev sameColour : ℕ → ℕ → ℕ → ℕ
-sameColour care colour n = bitOf (every 4 (λ p. pick (isOne (bit p care)) (eqb (bit p n) (bit p colour)) true))
+-- the bits at which l has the bit b, which s has eight times
+pub same-bits : (l s b : ℕ) → l < 256 → s < 256 → b < 2 → s ≡ byteOf (λ i. b) → 255 - bitXor l s ≡ byteOf (λ i. bitOf (eqb (bit i l) b))
+same-bits l s b hl hs hb e = is-of 8 (flip8 (bitXor l s)) (λ i h.
+    bit-flip i (bitXor l s) (xor8 l s hl hs) h
+    ∙ ap (λ (x : ℕ). 1 - x) (bit-xor i l s ∙ ap (differ (bit i l)) (ap (bit i) e ∙ bit-spread i b h hb))
+    ∙ same (bit i l) b (bit-lt i l) hb)
 
--- all 4,096 cases are tried
-tested : (care colour n : ℕ) → care < 16 → colour < 16 → n < 16 → bitOf (eqb (bitAnd n care) (bitAnd colour care)) ≡ sameColour care colour n
-unfolding bit
-tested = agree3 16 16 16 (λ care colour n. bitOf (eqb (bitAnd n care) (bitAnd colour care))) sameColour tt
+-- ---- four planes
+
+both : (p q : Bool) → min (bitOf p) (bitOf q) ≡ bitOf (pick q p false)
+both true true = refl
+both true false = refl
+both false true = refl
+both false false = refl
+
+kept : (p : Bool) → pick p true false ≡ p
+kept true = refl
+kept false = refl
+
+all-four : (f : ℕ → Bool) → min (min (min (bitOf (f 0)) (bitOf (f 1))) (bitOf (f 2))) (bitOf (f 3)) ≡ bitOf (every 4 f)
+all-four f = rw (kept (f 0), both (f 0) (f 1), both (pick (f 1) (f 0) false) (f 2), both (pick (f 2) (pick (f 1) (f 0) false) false) (f 3))
 
 bit-of-test : (b : Bool) → bitOf b < 2
 bit-of-test true = omega arith
 bit-of-test false = omega arith
 
 module _ (care colour : ℕ) (l : List ℕ) where
-  -- the machine's rule for bit i
-  abbrev pub rule : ℕ → ℕ
-  rule i = bitOf (every 4 (λ p. pick (isOne (bit p care)) (eqb (bit i (latch l p)) (bit p colour)) true))
+  -- the bits at which plane p agrees
+  abbrev pub agreed : ℕ → ℕ
+  agreed p = byteOf (λ i. bitOf (pick (isOne (bit p care)) (eqb (bit i (latch l p)) (bit p colour)) true))
 
-  rule-lt : (i : ℕ) → rule i < 2
-  rule-lt i = bit-of-test (every 4 (λ p. pick (isOne (bit p care)) (eqb (bit i (latch l p)) (bit p colour)) true))
+  at : (p i : ℕ) → i < 8 → bit i (agreed p) ≡ bitOf (pick (isOne (bit p care)) (eqb (bit i (latch l p)) (bit p colour)) true)
+  at p i h = bit-of 8 (λ i. bitOf (pick (isOne (bit p care)) (eqb (bit i (latch l p)) (bit p colour)) true)) (λ i. bit-of-test (pick (isOne (bit p care)) (eqb (bit i (latch l p)) (bit p colour)) true)) i h
 
-  module _ (hc : care ≤ 15) (hk : colour ≤ 15) where
-    pub rule-is : (i : ℕ) → bitOf (eqb (bitAnd (pixel l i) care) (bitAnd colour care)) ≡ rule i
-    rule-is i =
-        let f : ℕ → ℕ = λ p. bit i (latch l p) in
-        let h : (p : ℕ) → f p < 2 = λ p. bit-lt i (latch l p) in
-        tested care colour (pixel l i) (omega arith) (omega arith) (of-lt 4 f h)
-        ∙ simp (bit-of 4 f h 0 (lit< tt), bit-of 4 f h 1 (lit< tt), bit-of 4 f h 2 (lit< tt), bit-of 4 f h 3 (lit< tt))
-
-    -- a turn of the loop: the test passed, and not
-    module _ (i : ℕ) (h : i < 8) where
-      pub turn-set : bitAnd (pixel l i) care ≡ bitAnd colour care → bitOr (ofBits i rule) (1 * 2 ^ i % 256) ≡ ofBits (i + 1) rule
-      turn-set e = more-set rule rule-lt i h (sym (rule-is i) ∙ ap bitOf (eq-eqb (bitAnd (pixel l i) care) (bitAnd colour care) e))
-
-      pub turn-clear : (bitAnd (pixel l i) care ≡ bitAnd colour care → ⊥) → ofBits i rule ≡ ofBits (i + 1) rule
-      turn-clear n = more-clear rule rule-lt i h (sym (rule-is i) ∙ ap bitOf (ne-eqb (bitAnd (pixel l i) care) (bitAnd colour care) n))
+  pub all-agreed : bitAnd (bitAnd (bitAnd (agreed 0) (agreed 1)) (agreed 2)) (agreed 3) ≡ compared care colour l
+  unfolding agrees compared
+  all-agreed = is-of 8 (and8 (bitAnd (bitAnd (agreed 0) (agreed 1)) (agreed 2)) (agreed 3) (of-lt 8 (λ i. bitOf (pick (isOne (bit 3 care)) (eqb (bit i (latch l 3)) (bit 3 colour)) true)) (λ i. bit-of-test (pick (isOne (bit 3 care)) (eqb (bit i (latch l 3)) (bit 3 colour)) true)))) (λ i h.
+      simp (bit-and, at 0 i h, at 1 i h, at 2 i h, at 3 i h) (all-four (λ p. pick (isOne (bit p care)) (eqb (bit i (latch l p)) (bit p colour)) true)))

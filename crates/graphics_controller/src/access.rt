@@ -74,7 +74,7 @@ fn load(p0: &[u8], p1: &[u8], p2: &[u8], p3: &[u8], picture: &[u8], at: usize) -
 
 // What a read answers from the latches that it loaded.
 fn read_byte(mode: ReadMode, registers: GraphicsRegisters, latches: [u8; 4], address: usize) -> u8
-    requires { ⌜ (registers .«read_map_select» ≤ 3) × ((registers .«color_dont_care» ≤ 15) × (registers .«color_compare» ≤ 15)) ⌝ }
+    requires { ⌜ registers .«read_map_select» ≤ 3 ⌝ }
     ensures { λ r. ⌜ r ≡ readByte mode registers address latches ⌝ }
 {
     match mode {

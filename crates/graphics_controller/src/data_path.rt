@@ -18,7 +18,7 @@ fn rotate_right_u8(byte: u8, count: u8) -> u8
 }
 
 // One bit of a byte, eight times.
-fn spread(byte: u8, plane: u8) -> u8
+pub fn spread(byte: u8, plane: u8) -> u8
     requires { ⌜ plane ≤ 3 ⌝ }
     ensures { λ r. ⌜ r ≡ byteOf (λ i. bit plane byte) ⌝ }
 {

@@ -7,19 +7,13 @@ use machine::GraphicsRegisters;
 pub fn fits(registers: GraphicsRegisters) -> bool
     ensures { λ r. ⌜ r ≡ fitsGc registers ⌝ }
 {
-    if registers.register_select_byte > 15 {
-        return false;
-    }
-    if registers.set_reset > 15 {
-        return false;
-    }
-    if registers.enable_set_reset > 15 {
-        return false;
-    }
-    if registers.color_compare > 15 {
-        return false;
-    }
-    if registers.color_dont_care > 15 {
+    // five registers of four bits, in one test
+    let four_bits = registers.register_select_byte
+        | registers.set_reset
+        | registers.enable_set_reset
+        | registers.color_compare
+        | registers.color_dont_care;
+    if four_bits > 15 {
         return false;
     }
     if registers.read_map_select > 3 {

@@ -19,13 +19,8 @@ pub fn fits(seq: Sequencer) -> bool
     if seq.map_mask > 15 {
         return false;
     }
-    if seq.clocking_mode > 63 {
-        return false;
-    }
-    if seq.character_map_select > 63 {
-        return false;
-    }
-    if seq.memory_mode > 63 {
+    // three registers of six bits, in one test
+    if (seq.clocking_mode | seq.character_map_select | seq.memory_mode) > 63 {
         return false;
     }
     true

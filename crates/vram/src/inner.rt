@@ -1,7 +1,7 @@
 // What the crates above may call, and a host may not: the judges, and functions that ask something of their caller.
 ghost use mathlib.Core.Path.{_≡_};
 ghost use mathlib.Core.List.{List, [], _∷_};
-ghost use Prim.Native.Nat.{ℕ, _<_, _≤_};
+ghost use Prim.Native.Nat.{ℕ, _+_, _*_, _<_, _≤_};
 ghost use lib.Dec.{eqb, ltb};
 ghost use lib.ListN.{length, getD};
 ghost use Rattle.bits.specs.Bit.{bit, ofBits};
@@ -203,15 +203,15 @@ pub fn lay(
     p3[at] = x;
 }
 
-// The pixel that four planes' bytes have at bit s: plane p's bit becomes bit p.
-fn pixel(b0: u8, b1: u8, b2: u8, b3: u8, s: u8) -> u8
+// The pixels that four planes' bytes have at bits s and s + 4, in the low and the high half: plane p's bit becomes bit p of each.
+fn two_pixels(b0: u8, b1: u8, b2: u8, b3: u8, s: u8) -> u8
     requires { ⌜ s < 8 ⌝ }
-    ensures { λ r. ⌜ r ≡ ofBits 4 (λ p. bit s (getD (b0 ∷ b1 ∷ b2 ∷ b3 ∷ []) p 0)) ⌝ }
+    ensures { λ r. ⌜ r ≡ ofBits 4 (λ p. bit s (getD (b0 ∷ b1 ∷ b2 ∷ b3 ∷ []) p 0)) + 16 * ofBits 4 (λ p. bit (s + 4) (getD (b0 ∷ b1 ∷ b2 ∷ b3 ∷ []) p 0)) ⌝ }
 {
-    let bit0 = (b0 >> s) & 1;
-    let bit1 = ((b1 >> s) & 1) << 1;
-    let bit2 = ((b2 >> s) & 1) << 2;
-    let bit3 = ((b3 >> s) & 1) << 3;
+    let bit0 = (b0 >> s) & 0x11;
+    let bit1 = ((b1 >> s) & 0x11) << 1;
+    let bit2 = ((b2 >> s) & 0x11) << 2;
+    let bit3 = ((b3 >> s) & 0x11) << 3;
     bit0 | bit1 | bit2 | bit3
 }
 
@@ -226,14 +226,18 @@ pub fn remake(p0: &[u8], p1: &[u8], p2: &[u8], p3: &[u8], picture: &mut [u8], at
     let b3 = p3[at];
     let first = machine::inner::first_pixel(PlaneOffset(at));
     let place = first.0;
-    picture[place] = pixel(b0, b1, b2, b3, 7);
-    picture[place + 1] = pixel(b0, b1, b2, b3, 6);
-    picture[place + 2] = pixel(b0, b1, b2, b3, 5);
-    picture[place + 3] = pixel(b0, b1, b2, b3, 4);
-    picture[place + 4] = pixel(b0, b1, b2, b3, 3);
-    picture[place + 5] = pixel(b0, b1, b2, b3, 2);
-    picture[place + 6] = pixel(b0, b1, b2, b3, 1);
-    picture[place + 7] = pixel(b0, b1, b2, b3, 0);
+    let bits73 = two_pixels(b0, b1, b2, b3, 3);
+    let bits62 = two_pixels(b0, b1, b2, b3, 2);
+    let bits51 = two_pixels(b0, b1, b2, b3, 1);
+    let bits40 = two_pixels(b0, b1, b2, b3, 0);
+    picture[place] = bits73 >> 4;
+    picture[place + 1] = bits62 >> 4;
+    picture[place + 2] = bits51 >> 4;
+    picture[place + 3] = bits40 >> 4;
+    picture[place + 4] = bits73 & 0x0F;
+    picture[place + 5] = bits62 & 0x0F;
+    picture[place + 6] = bits51 & 0x0F;
+    picture[place + 7] = bits40 & 0x0F;
 }
 
 // A store into one plane, already judged: the byte, then its offset's eight pixels.

@@ -5,7 +5,8 @@ use borrow.Author.Needs.{needs}
 use Rattle.machine.specs.Address.{a0}
 use Rattle.machine.proofs.Laws.{refusal-some, access-accepted}
 use Rattle.machine.specs.Memory.{mem, shape}
-use Rattle.graphics_controller.proofs.Accesses.{located, unlocated, access-fits, read-fits, read-refused, read-done}
+use Rattle.graphics_controller.proofs.Held.{map-select-fits}
+use Rattle.graphics_controller.proofs.Accesses.{located, unlocated, access-fits, read-refused, read-done}
 use Rattle.graphics_controller.proofs.access.cpu_read_u8.Statement.{statement}
 use Rattle.graphics_controller.proofs.access.cpu_read_u8.Tie as tie
 
@@ -32,7 +33,7 @@ read-byte-requires : tie.Need-read-byte-requires
 read-byte-requires c κs =
     let a = c .before .before .before .before .before .before .before .before .before .before .before .before .args in
     let l = located _ _ _ _ (a0 (a .address)) (c .before .before .before .before .before .judge .ensures) _ _ (c .before .before .before .offset .given .1) in
-    read-fits (a .gc .registers) (access-fits (a .gc .registers) (a .seq) (shape (mem (a .p0 .now) (a .p1 .now) (a .p2 .now) (a .p3 .now) (a .picture .now))) (a .address) (a .page) (l .accepted) .0)
+    map-select-fits (a .gc .registers) (access-fits (a .gc .registers) (a .seq) (shape (mem (a .p0 .now) (a .p1 .now) (a .p2 .now) (a .p3 .now) (a .picture .now))) (a .address) (a .page) (l .accepted) .0)
 
 counted-read-requires : tie.Need-counted-read-requires
 counted-read-requires c κs = search needs

@@ -16,7 +16,7 @@ selected-plane-requires c κs = search needs
 
 array-read-result : tie.Need-array-read-result
 array-read-result c =
-    let h = select-small (c .before .before .before .args .registers) (c .before .before .before .args .address) (c .before .before .before .pre .0) in omega (arith, c .selected-plane .ensures)
+    let h = select-small (c .before .before .before .args .registers) (c .before .before .before .args .address) (c .before .before .before .pre) in omega (arith, c .selected-plane .ensures)
 
 enum-told-2 : tie.Need-enum-told-2
 enum-told-2 c = search needs

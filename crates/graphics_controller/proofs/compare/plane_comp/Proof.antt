@@ -1,47 +1,28 @@
--- `plane_comp` is bit i of the four latches as one number: from the law of the shifts.
+-- `plane_comp` is the machine's rule for a plane at each bit: from the test of its Don't Care bit.
+use native.Mathlib.Omega.{arith}
 use borrow.Author.Needs.{needs}
-use Rattle.graphics_controller.proofs.Colour.{pixel-is}
+use Rattle.bits.specs.Bit.{bit, ofBits}
+use Rattle.bits.proofs.Laws.{bit-lt}
+use Rattle.bits.proofs.Bitwise.{bit-set, bit-clear}
+use Rattle.graphics_controller.proofs.Colour.{same-bits}
 use Rattle.graphics_controller.proofs.compare.plane_comp.Statement.{statement}
 use Rattle.graphics_controller.proofs.compare.plane_comp.Tie as tie
 
-array-read-result : tie.Need-array-read-result
-array-read-result c = search needs
+shl-if1 : tie.Need-shl-if1
+shl-if1 c = search needs
 
-shr-result : tie.Need-shr-result
-shr-result c = search needs
-
-array-read-result-2 : tie.Need-array-read-result-2
-array-read-result-2 c = search needs
-
-shr-result-2 : tie.Need-shr-result-2
-shr-result-2 c = search needs
-
-array-read-result-3 : tie.Need-array-read-result-3
-array-read-result-3 c = search needs
-
-shr-result-3 : tie.Need-shr-result-3
-shr-result-3 c = search needs
-
-array-read-result-4 : tie.Need-array-read-result-4
-array-read-result-4 c = search needs
-
-shr-result-4 : tie.Need-shr-result-4
-shr-result-4 c = search needs
+spread-requires : tie.Need-spread-requires
+spread-requires c κs = search needs
 
 returns : tie.Need-returns
 returns c =
-    pixel-is (c .args .t1) (c .args .i)
+    rw (bit-set (c .before .before .args .color-dont-care) (c .before .before .args .plane) (omega arith) (c .before .if1 .taken))
+    (same-bits (c .before .before .args .latch) (c .spread .result) (bit (c .before .before .args .plane) (c .before .before .args .color-compare)) (search needs) (search needs) (bit-lt _ _) (c .spread .ensures))
+
+returns-2 : tie.Need-returns-2
+unfolding ofBits
+returns-2 c =
+    rw (bit-clear (c .before .args .color-dont-care) (c .before .args .plane) (omega arith) (c .if1 .left))
 
 pub plane-comp-spec : {M : Type 1} → statement M
-plane-comp-spec =
-    tie.close
-    (tie.spec
-    array-read-result
-    shr-result
-    array-read-result-2
-    shr-result-2
-    array-read-result-3
-    shr-result-3
-    array-read-result-4
-    shr-result-4
-    returns)
+plane-comp-spec = tie.close (tie.spec shl-if1 spread-requires returns returns-2)
