@@ -1,12 +1,12 @@
 -- An access from its judge to its outcome: what a located address says, refusals 6, 1, 2, 3 in their turn, and a plan carried out on both records and memory.
-use Prim.Native.Nat.{ℕ, zero, suc, _+_, _*_, _/_, _≤_, _<_}
+use Prim.Native.Nat.{ℕ, zero, suc, _+_, _*_, _/_, _%_, _≤_, _<_}
 use native.Mathlib.Omega.{arith}
 use mathlib.Core.Path.{_≡_, refl, sym, ap, _∙_}
 use mathlib.Core.Bool.{Bool, true, false}
 use mathlib.Core.List.{List, []}
-use lib.Dec.{leb}
+use lib.Dec.{ltb}
 use lib.ListN.{length, getD, take, drop}
-use borrow.Author.Tests.{ltb-true, leb-true, lt-ltb, le-ltb}
+use borrow.Author.Tests.{ltb-true}
 use Rattle.bits.specs.Bit.{bitOf, pick}
 use Rattle.machine.specs.declared.answer.Refusal.{Refusal}
 use Rattle.machine.specs.declared.answer.MappedAnswer.{MappedAnswer}
@@ -17,20 +17,22 @@ use Rattle.machine.specs.declared.graphics.WriteMode.{WriteMode}
 use Rattle.machine.specs.declared.graphics.WriteMode.the-variants.{Mode0, Mode1, Mode2, Invalid}
 use Rattle.machine.specs.declared.graphics.GraphicsRegisters.{GraphicsRegisters}
 use Rattle.machine.specs.declared.graphics.GraphicsController.{GraphicsController}
+use Rattle.machine.specs.declared.graphics.MemoryMap.{MemoryMap}
 use Rattle.machine.specs.declared.graphics.ReadMode.{ReadMode}
 use Rattle.machine.specs.declared.graphics.ReadMode.the-variants.{ReadSelectedPlane, ReadComparedPlanes}
 use Rattle.machine.specs.declared.sequencer.Sequencer.{Sequencer}
 use Rattle.machine.specs.Memory.{Memory, Shape, shape, sound}
 use Rattle.machine.specs.Answers.{refusalNumber, Value, one, two, blank, Said, said, part, Outcome, outcome, answered, mappedSaid}
-use Rattle.machine.specs.Graphics.{fitsGc, memoryMap, oddEven, isOddEven, readMode, writeMode, shiftMode, gcOf}
+use Rattle.machine.specs.Graphics.{fitsGc, memoryMap, chained, oddEven, isOddEven, readMode, writeMode, shiftMode, gcOf}
 use Rattle.machine.specs.Sequencer.{fitsSeq}
-use Rattle.machine.specs.Address.{inWindow, a0, offset}
+use Rattle.machine.specs.Address.{inWindow, a0, mapped, offset}
 use Rattle.machine.specs.DataPath.{selectedPlane}
 use Rattle.machine.specs.Deeds.{byte, latch, loaded, latchesAfter, memoryAfter, valueOf}
 use Rattle.machine.specs.Calls.{refuse, fitsBoth, accessNumber, shows, showNumber, CpuPlan, counted, readCounter, writeCounter, readReply, writeDeed, cpuPlan, cpuRead, cpuPeek, cpuWrite, serialize}
 use Rattle.machine.specs.Step.{device, lifted, cpuPerform, cpuStep}
 use Rattle.machine.proofs.Laws.{both, refuse-0, sound-shaped, AtOffset, answered-refused}
 use Rattle.graphics_controller.proofs.Held.{map-select-fits}
+use Rattle.graphics_controller.proofs.Windows.{left}
 use Rattle.graphics_controller.specs.Reads.{readByte}
 
 -- ---- what an answer says of an address
@@ -75,33 +77,14 @@ module _ (r : GraphicsRegisters) (s : Sequencer) (h : Shape) (x : ℕ) (page : B
   unfolding accessNumber
   access-fits e = both (fitsGc r) (fitsSeq s) (refuse-0 (fitsBoth r s) 5 _ (sym e) .0)
 
--- 6 and 1 passed: the judge's answer from that of the map
-module _ (r : GraphicsRegisters) (s : Sequencer) (m : Memory) (x : ℕ) (page : Bool) (e : fitsGc r ≡ true) (f : fitsSeq s ≡ true) (g : sound (shape m) ≡ true) where
-  abbrev Judged : ℕ → Value → Type 0
-  Judged k v = outcome (said k v) r ≡ answered (accessNumber r s (shape m) x page) (two (offset r x page) (bitOf (a0 x))) r r
-
-  abbrev windowed : ℕ
-  windowed = refuse (inWindow (memoryMap r) x) 2 0
-
-  in-window : 0 ≡ windowed → inWindow (memoryMap r) x ≡ true
-  in-window h = refuse-0 (inWindow (memoryMap r) x) 1 0 (sym h) .0
-
-  -- 2 is given whatever the offset would be
-  pub judged-refused : (k : ℕ) → 0 < k → k ≡ windowed → Judged k (two 0 0)
-  judged-refused k h l = answered-refused k (accessNumber r s (shape m) x page) _ _ r r h (l ∙ go (inWindow (memoryMap r) x) refl) refl
-    where
-      go : (b : Bool) → inWindow (memoryMap r) x ≡ b → refuse b 2 0 ≡ accessNumber r s (shape m) x page
-      go true w = absurd (let z : k ≡ 0 = l ∙ ap (λ (b : Bool). refuse b 2 0) w in omega arith)
-      go false w = unfold accessNumber in simp (e, f, g, w)
-
-  module _ (o : ℕ) (b : Bool) (h : Located windowed o (offset r x page) b (a0 x)) where
-    pub judged-beyond : length (m .p0) ≤ o → Judged 3 (two 0 0)
-    unfolding accessNumber
-    judged-beyond l = simp (e, f, g, in-window (h .accepted), le-ltb (offset r x page) (length (m .p0)) (omega (arith, h .offset)))
-
-    pub judged-done : o < length (m .p0) → Judged 0 (two o (bitOf b))
-    unfolding accessNumber
-    judged-done l = simp (e, f, g, in-window (h .accepted), lt-ltb (offset r x page) (length (m .p0)) (omega (arith, h .offset)), h .offset, h .bit0)
+-- the answer of `judge_address`, by the tests of both records and of the memory
+pub judged : (r : GraphicsRegisters) (s : Sequencer) (m : Memory) (x : ℕ) (page : Bool) (d : MappedAnswer) (f g : Bool) (w : MemoryMap) (c : Bool)
+    → f ≡ fitsBoth r s → g ≡ sound (shape m) → w ≡ memoryMap r → c ≡ chained r
+    → outcome (mappedSaid d) x ≡ answered (refuse f 6 (refuse g 1 (refuse (inWindow w x) 2 (refuse (ltb (mapped w c x page % 65536) (length (m .p0))) 3 0)))) (two (mapped w c x page % 65536) (bitOf (a0 x))) x x
+    → outcome (mappedSaid d) r ≡ answered (accessNumber r s (shape m) x page) (two (offset r x page) (bitOf (a0 x))) r r
+unfolding accessNumber offset
+judged r s m x page d f g w c ef eg ew ec e =
+    left (accessNumber r s (shape m) x page) (two (offset r x page) (bitOf (a0 x))) (mappedSaid d) x r (rw (← ef, ← eg, ← ew, ← ec) e)
 
 -- 6, 1, 9 and 5 passed
 pub show-accepted : (r : GraphicsRegisters) (s : Sequencer) (m : Memory) (o : ℕ) → 0 ≡ showNumber r s (shape m) o → AtOffset m o

@@ -11,7 +11,7 @@ ghost use Rattle.machine.specs.Deeds.{loaded};
 ghost use Rattle.machine.specs.Calls.{accessNumber, counted, writeCounter, cpuRead, cpuPeek, cpuWrite};
 ghost use Rattle.machine.specs.Step.{device, cpuStep};
 ghost use Rattle.graphics_controller.specs.Reads.{readByte};
-use crate::address::locate;
+use crate::address::judge_address;
 use crate::compare::pixel_op_compare;
 use crate::count::counted_read;
 use crate::count::counted_write;
@@ -29,7 +29,7 @@ use machine::Refusal;
 use machine::Sequencer;
 use machine::StoreAnswer;
 
-// Refusals 6, 1, 2, 3, or the offset and a0, so that no address is mapped twice.
+// Refusals 6, 1, 2, 3, or the offset and a0.
 fn judge(
     registers: GraphicsRegisters,
     seq: Sequencer,
@@ -43,25 +43,11 @@ fn judge(
 ) -> MappedAnswer
     ensures { λ r. ⌜ outcome (mappedSaid r) registers ≡ answered (accessNumber registers seq (shape (before p0 p1 p2 p3 picture)) address page) (two (offsetOf registers address page) (bitOf (bit0 address))) registers registers ⌝ }
 {
-    if !inner::fits(registers) {
-        return MappedAnswer::Refused(Refusal::State);
-    }
-    if !sequencer::inner::fits(seq) {
-        return MappedAnswer::Refused(Refusal::State);
-    }
-    if !vram::inner::shaped(p0, p1, p2, p3, picture) {
-        return MappedAnswer::Refused(Refusal::Memory);
-    }
-    match locate(registers, address, page) {
-        MappedAnswer::Refused(x) => MappedAnswer::Refused(x),
-        MappedAnswer::Done(offset, a0) => {
-            let at = offset.0;
-            if at >= p0.len() {
-                return MappedAnswer::Refused(Refusal::Offset);
-            }
-            MappedAnswer::Done(offset, a0)
-        }
-    }
+    let fits = inner::fits_both(registers, seq);
+    let shaped = vram::inner::shaped(p0, p1, p2, p3, picture);
+    let map = registers.memory_map();
+    let chain = registers.chain_odd_even();
+    judge_address(fits, shaped, map, chain, p0.len(), address, page)
 }
 
 // The four planes' bytes at an offset.

@@ -1,17 +1,15 @@
 // From an address to a plane offset: the windows, the memory maps, chain odd/even and the page bit.
 ghost use mathlib.Core.Path.{_≡_};
 ghost use mathlib.Core.Bool.{_&&_, true};
-ghost use Prim.Native.Nat.{_≤_};
-ghost use lib.Dec.{leb};
+ghost use Prim.Native.Nat.{_≤_, _%_};
+ghost use lib.Dec.{leb, ltb};
 ghost use Rattle.bits.specs.Bit.{bitOf};
 ghost use Rattle.machine.specs.Answers.{two, outcome, answered, mappedSaid};
-ghost use Rattle.machine.specs.Graphics.{memoryMap};
-ghost use Rattle.machine.specs.Address.{inWindow, a0, withBit0, mapped, offset};
+ghost use Rattle.machine.specs.Address.{inWindow, a0, withBit0, mapped};
 ghost use Rattle.machine.specs.Calls.{refuse, gcMapAddress};
 ghost use Rattle.machine.specs.Step.{graphicsStep};
 use crate::inner;
 use machine::GraphicsController;
-use machine::GraphicsRegisters;
 use machine::MappedAnswer;
 use machine::MemoryMap;
 use machine::PlaneOffset;
@@ -97,24 +95,41 @@ fn mapped(map: MemoryMap, chain: bool, address: usize, page: bool) -> usize
     }
 }
 
-// Refusal 2, or the plane offset and a0.
-pub fn locate(registers: GraphicsRegisters, address: usize, page: bool) -> MappedAnswer
-    ensures { λ r. ⌜ outcome (mappedSaid r) registers ≡ answered (refuse (inWindow (memoryMap registers) address) 2 0) (two (offset registers address page) (bitOf (a0 address))) registers registers ⌝ }
+// Refusals 6, 1, 2, 3 by the tests handed in, or the offset and a0, so that no address is mapped twice. It is handed no record: a call costs little.
+pub fn judge_address(
+    fits: bool,
+    shaped: bool,
+    map: MemoryMap,
+    chain: bool,
+    n: usize,
+    address: usize,
+    page: bool,
+) -> MappedAnswer
+    ensures { λ r. ⌜ outcome (mappedSaid r) address ≡ answered (refuse fits 6 (refuse shaped 1 (refuse (inWindow map address) 2 (refuse (ltb (mapped map chain address page % 65536) n) 3 0)))) (two (mapped map chain address page % 65536) (bitOf (a0 address))) address address ⌝ }
 {
-    let map = registers.memory_map();
+    if !fits {
+        return MappedAnswer::Refused(Refusal::State);
+    }
+    if !shaped {
+        return MappedAnswer::Refused(Refusal::Memory);
+    }
     if !in_window(map, address) {
         return MappedAnswer::Refused(Refusal::Window);
     }
-    let wide = mapped(map, registers.chain_odd_even(), address, page);
-    MappedAnswer::Done(PlaneOffset(wide & 0xFFFF), address & 1 == 1)
+    let at = mapped(map, chain, address, page) & 0xFFFF;
+    if at >= n {
+        return MappedAnswer::Refused(Refusal::Offset);
+    }
+    MappedAnswer::Done(PlaneOffset(at), address & 1 == 1)
 }
 
+// Of any memory: every offset of 16 bits is within 65,536.
 pub fn map_address(gc: GraphicsController, address: usize, page: bool) -> MappedAnswer
     ensures { λ r. ⌜ outcome (mappedSaid r) gc ≡ graphicsStep gc (gcMapAddress address page) ⌝ }
 {
     let registers = gc.registers;
-    if !inner::fits(registers) {
-        return MappedAnswer::Refused(Refusal::State);
-    }
-    locate(registers, address, page)
+    let fits = inner::fits(registers);
+    let map = registers.memory_map();
+    let chain = registers.chain_odd_even();
+    judge_address(fits, true, map, chain, 65536, address, page)
 }

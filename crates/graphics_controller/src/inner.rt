@@ -1,7 +1,9 @@
 // What the crates above may call, and a host may not.
 ghost use mathlib.Core.Path.{_≡_};
 ghost use Rattle.machine.specs.Graphics.{fitsGc};
+ghost use Rattle.machine.specs.Calls.{fitsBoth};
 use machine::GraphicsRegisters;
+use machine::Sequencer;
 
 // Not refusal 6: each register holds a value that it can hold.
 pub fn fits(registers: GraphicsRegisters) -> bool
@@ -20,4 +22,14 @@ pub fn fits(registers: GraphicsRegisters) -> bool
         return false;
     }
     true
+}
+
+// .. of both records.
+pub fn fits_both(registers: GraphicsRegisters, seq: Sequencer) -> bool
+    ensures { λ r. ⌜ r ≡ fitsBoth registers seq ⌝ }
+{
+    if !fits(registers) {
+        return false;
+    }
+    sequencer::inner::fits(seq)
 }

@@ -38,10 +38,7 @@ fn judge(
 ) -> DoneAnswer
     ensures { λ r. ⌜ doneSaid r .number ≡ showNumber registers seq (shape (before p0 p1 p2 p3 picture)) (offset .0) ⌝ }
 {
-    if !inner::fits(registers) {
-        return DoneAnswer::Refused(Refusal::State);
-    }
-    if !sequencer::inner::fits(seq) {
+    if !inner::fits_both(registers, seq) {
         return DoneAnswer::Refused(Refusal::State);
     }
     if !vram::inner::shaped(p0, p1, p2, p3, picture) {

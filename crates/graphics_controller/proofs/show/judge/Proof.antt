@@ -1,34 +1,26 @@
 -- `judge` gives refusals 6, 1, 9, 5 in their turn: from the tests passed on the way.
-use mathlib.Core.Path.{sym, ap, _∙_}
-use borrow.Author.Tests.{lt-ltb, le-ltb, not-true, not-false}
-use borrow.Author.Needs.{needs}
 use Rattle.machine.specs.Calls.{shows as showsIn, showNumber}
+use borrow.Author.Tests.{lt-ltb, le-ltb, not-true, not-false}
+use mathlib.Core.Path.{sym, ap, _∙_}
+use borrow.Author.Needs.{needs}
 use Rattle.graphics_controller.proofs.show.judge.Statement.{statement}
 use Rattle.graphics_controller.proofs.show.judge.Tie as tie
 
-fits-requires : tie.Need-fits-requires
-fits-requires c κs = search needs
+fits-both-requires : tie.Need-fits-both-requires
+fits-both-requires c κs = search needs
 
 returns : tie.Need-returns
 unfolding showNumber
 returns c =
-    simp (sym (c .before .fits2 .ensures) ∙ not-true _ (c .if1 .taken))
-
-fits-requires-2 : tie.Need-fits-requires-2
-fits-requires-2 c κs = search needs
-
-returns-2 : tie.Need-returns-2
-unfolding showNumber
-returns-2 c =
-    simp (sym (c .before .before .before .fits2 .ensures) ∙ not-false _ (c .before .before .if1 .left), sym (c .before .fits3 .ensures) ∙ not-true _ (c .if2 .taken))
+    simp (sym (c .before .fits-both .ensures) ∙ not-true _ (c .if1 .taken))
 
 shaped-requires : tie.Need-shaped-requires
 shaped-requires c κs = search needs
 
-returns-3 : tie.Need-returns-3
+returns-2 : tie.Need-returns-2
 unfolding showNumber
-returns-3 c =
-    simp (sym (c .before .before .before .before .before .fits2 .ensures) ∙ not-false _ (c .before .before .before .before .if1 .left), sym (c .before .before .before .fits3 .ensures) ∙ not-false _ (c .before .before .if2 .left), sym (c .before .shaped .ensures) ∙ not-true _ (c .if3 .taken))
+returns-2 c =
+    simp (sym (c .before .before .before .fits-both .ensures) ∙ not-false _ (c .before .before .if1 .left), sym (c .before .shaped .ensures) ∙ not-true _ (c .if2 .taken))
 
 shift-mode-requires : tie.Need-shift-mode-requires
 shift-mode-requires c κs = search needs
@@ -36,33 +28,31 @@ shift-mode-requires c κs = search needs
 shows-requires : tie.Need-shows-requires
 shows-requires c κs = search needs
 
+returns-3 : tie.Need-returns-3
+unfolding showNumber
+returns-3 c =
+    simp (sym (c .before .before .before .before .before .before .fits-both .ensures) ∙ not-false _ (c .before .before .before .before .before .if1 .left), sym (c .before .before .before .before .shaped .ensures) ∙ not-false _ (c .before .before .before .if2 .left), sym (c .before .shows .ensures ∙ ap showsIn (c .before .before .shift-mode .ensures)) ∙ not-true _ (c .if3 .taken))
+
 returns-4 : tie.Need-returns-4
 unfolding showNumber
 returns-4 c =
-    simp (sym (c .before .before .before .before .before .before .before .before .fits2 .ensures) ∙ not-false _ (c .before .before .before .before .before .before .before .if1 .left), sym (c .before .before .before .before .before .before .fits3 .ensures) ∙ not-false _ (c .before .before .before .before .before .if2 .left), sym (c .before .before .before .before .shaped .ensures) ∙ not-false _ (c .before .before .before .if3 .left), sym (c .before .shows .ensures ∙ ap showsIn (c .before .before .shift-mode .ensures)) ∙ not-true _ (c .if4 .taken))
+    simp (sym (c .before .before .before .before .before .before .before .fits-both .ensures) ∙ not-false _ (c .before .before .before .before .before .before .if1 .left), sym (c .before .before .before .before .before .shaped .ensures) ∙ not-false _ (c .before .before .before .before .if2 .left), sym (c .before .before .shows .ensures ∙ ap showsIn (c .before .before .before .shift-mode .ensures)) ∙ not-false _ (c .before .if3 .left), le-ltb _ _ (c .if4 .taken))
 
 returns-5 : tie.Need-returns-5
 unfolding showNumber
 returns-5 c =
-    simp (sym (c .before .before .before .before .before .before .before .before .before .fits2 .ensures) ∙ not-false _ (c .before .before .before .before .before .before .before .before .if1 .left), sym (c .before .before .before .before .before .before .before .fits3 .ensures) ∙ not-false _ (c .before .before .before .before .before .before .if2 .left), sym (c .before .before .before .before .before .shaped .ensures) ∙ not-false _ (c .before .before .before .before .if3 .left), sym (c .before .before .shows .ensures ∙ ap showsIn (c .before .before .before .shift-mode .ensures)) ∙ not-false _ (c .before .if4 .left), le-ltb _ _ (c .if5 .taken))
-
-returns-6 : tie.Need-returns-6
-unfolding showNumber
-returns-6 c =
-    simp (sym (c .before .before .before .before .before .before .before .before .before .fits2 .ensures) ∙ not-false _ (c .before .before .before .before .before .before .before .before .if1 .left), sym (c .before .before .before .before .before .before .before .fits3 .ensures) ∙ not-false _ (c .before .before .before .before .before .before .if2 .left), sym (c .before .before .before .before .before .shaped .ensures) ∙ not-false _ (c .before .before .before .before .if3 .left), sym (c .before .before .shows .ensures ∙ ap showsIn (c .before .before .before .shift-mode .ensures)) ∙ not-false _ (c .before .if4 .left), lt-ltb _ _ (c .if5 .left))
+    simp (sym (c .before .before .before .before .before .before .before .fits-both .ensures) ∙ not-false _ (c .before .before .before .before .before .before .if1 .left), sym (c .before .before .before .before .before .shaped .ensures) ∙ not-false _ (c .before .before .before .before .if2 .left), sym (c .before .before .shows .ensures ∙ ap showsIn (c .before .before .before .shift-mode .ensures)) ∙ not-false _ (c .before .if3 .left), lt-ltb _ _ (c .if4 .left))
 
 pub judge-spec : {M : Type 1} → statement M
 judge-spec =
     tie.close
     (tie.spec
-    fits-requires
+    fits-both-requires
     returns
-    fits-requires-2
-    returns-2
     shaped-requires
-    returns-3
+    returns-2
     shift-mode-requires
     shows-requires
+    returns-3
     returns-4
-    returns-5
-    returns-6)
+    returns-5)
