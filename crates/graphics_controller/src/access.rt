@@ -29,27 +29,6 @@ use machine::Refusal;
 use machine::Sequencer;
 use machine::StoreAnswer;
 
-// Refusals 6, 1, 2, 3, or the offset and a0.
-fn judge(
-    registers: GraphicsRegisters,
-    seq: Sequencer,
-    p0: &[u8],
-    p1: &[u8],
-    p2: &[u8],
-    p3: &[u8],
-    picture: &[u8],
-    address: usize,
-    page: bool,
-) -> MappedAnswer
-    ensures { λ r. ⌜ outcome (mappedSaid r) registers ≡ answered (accessNumber registers seq (shape (before p0 p1 p2 p3 picture)) address page) (two (offsetOf registers address page) (bitOf (bit0 address))) registers registers ⌝ }
-{
-    let fits = inner::fits_both(registers, seq);
-    let shaped = vram::inner::shaped(p0, p1, p2, p3, picture);
-    let map = registers.memory_map();
-    let chain = registers.chain_odd_even();
-    judge_address(fits, shaped, map, chain, p0.len(), address, page)
-}
-
 // The four planes' bytes at an offset.
 fn load(p0: &[u8], p1: &[u8], p2: &[u8], p3: &[u8], picture: &[u8], at: usize) -> [u8; 4]
     requires { ⌜ Shaped (lent p0 p1 p2 p3 picture) × (at < length (now p0)) ⌝ }
@@ -89,7 +68,11 @@ pub fn cpu_read_u8(
     ensures { λ r. ⌜ outcome (byteSaid (r .answer)) (device (r .gc) (before p0 p1 p2 p3 picture)) ≡ cpuStep gc seq (before p0 p1 p2 p3 picture) (cpuRead address page) ⌝ }
 {
     let registers = gc.registers;
-    match judge(registers, seq, p0, p1, p2, p3, picture, address, page) {
+    let fits = inner::fits_both(registers, seq);
+    let shaped = vram::inner::shaped(p0, p1, p2, p3, picture);
+    let map = registers.memory_map();
+    let chain = registers.chain_odd_even();
+    match judge_address(fits, shaped, map, chain, p0.len(), address, page) {
         MappedAnswer::Refused(x) => CpuByte {
             answer: ByteAnswer::Refused(x),
             gc,
@@ -127,7 +110,12 @@ pub fn cpu_peek_u8(
 ) -> ByteAnswer
     ensures { λ r. ⌜ outcome (byteSaid r) (device gc (before p0 p1 p2 p3 picture)) ≡ cpuStep gc seq (before p0 p1 p2 p3 picture) (cpuPeek address page) ⌝ }
 {
-    match judge(gc.registers, seq, p0, p1, p2, p3, picture, address, page) {
+    let registers = gc.registers;
+    let fits = inner::fits_both(registers, seq);
+    let shaped = vram::inner::shaped(p0, p1, p2, p3, picture);
+    let map = registers.memory_map();
+    let chain = registers.chain_odd_even();
+    match judge_address(fits, shaped, map, chain, p0.len(), address, page) {
         MappedAnswer::Refused(x) => ByteAnswer::Refused(x),
         MappedAnswer::Done(offset, _) => {
             let at = offset.0;
@@ -169,7 +157,12 @@ pub fn cpu_write_u8(
 ) -> CpuStore
     ensures { λ r. ⌜ outcome (storeSaid (r .answer)) (device (r .gc) (after p0 p1 p2 p3 picture)) ≡ cpuStep gc seq (before p0 p1 p2 p3 picture) (cpuWrite address page byte) ⌝ }
 {
-    match judge(gc.registers, seq, p0, p1, p2, p3, picture, address, page) {
+    let registers = gc.registers;
+    let fits = inner::fits_both(registers, seq);
+    let shaped = vram::inner::shaped(p0, p1, p2, p3, picture);
+    let map = registers.memory_map();
+    let chain = registers.chain_odd_even();
+    match judge_address(fits, shaped, map, chain, p0.len(), address, page) {
         MappedAnswer::Refused(x) => CpuStore {
             answer: StoreAnswer::Refused(x),
             gc,

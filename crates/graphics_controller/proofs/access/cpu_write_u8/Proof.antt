@@ -1,16 +1,28 @@
 -- `cpu_write_u8` answers as the machine: refused by the judge's number, else the mode's deed done and one counter raised.
-use native.Mathlib.Omega.{arith}
-use mathlib.Core.Path.{sym}
-use borrow.Author.Needs.{needs}
-use Rattle.machine.proofs.Laws.{refusal-some, access-accepted}
+use Rattle.graphics_controller.proofs.Accesses.{judged, located, unlocated, access-fits, write-refused, write-done}
 use Rattle.machine.specs.Memory.{mem, shape}
+use Rattle.machine.proofs.Laws.{refusal-some, access-accepted}
 use Rattle.machine.specs.Address.{a0}
-use Rattle.graphics_controller.proofs.Accesses.{located, unlocated, access-fits, write-refused, write-done}
+use mathlib.Core.Path.{sym}
+use native.Mathlib.Omega.{arith}
+use borrow.Author.Needs.{needs}
 use Rattle.graphics_controller.proofs.access.cpu_write_u8.Statement.{statement}
 use Rattle.graphics_controller.proofs.access.cpu_write_u8.Tie as tie
 
-judge-requires : tie.Need-judge-requires
-judge-requires c κs = search needs
+fits-both-requires : tie.Need-fits-both-requires
+fits-both-requires c κs = search needs
+
+shaped-requires : tie.Need-shaped-requires
+shaped-requires c κs = search needs
+
+memory-map-requires : tie.Need-memory-map-requires
+memory-map-requires c κs = search needs
+
+chain-odd-even-requires : tie.Need-chain-odd-even-requires
+chain-odd-even-requires c κs = search needs
+
+judge-address-requires : tie.Need-judge-address-requires
+judge-address-requires c κs = search needs
 
 enum-known-x : tie.Need-enum-known-x
 enum-known-x c = search needs
@@ -20,8 +32,9 @@ enum-known-offset c = search needs
 
 write-planes-requires : tie.Need-write-planes-requires
 write-planes-requires c κs =
-    let a = c .before .before .before .before .before .before .before .before .before .before .before .before .before .before .before .before .before .before .before .args in
-    let l = located _ _ _ _ (a0 (a .address)) (c .before .before .before .before .before .before .before .before .judge .ensures) _ _ (c .before .before .before .before .before .before .offset .given .1) in
+    let a = c .before .before .before .before .before .before .before .before .before .before .before .before .before .before .before .before .before .before .before .before .before .before .before .before .args in
+    let j = judged (a .gc .registers) (a .seq) (mem (a .p0 .now) (a .p1 .now) (a .p2 .now) (a .p3 .now) (a .picture .now)) (a .address) (a .page) (c .before .before .before .before .before .before .before .before .judge-address .result) _ _ _ _ (c .before .before .before .before .before .before .before .before .before .before .before .before .before .before .before .before .before .fits-both .ensures) (c .before .before .before .before .before .before .before .before .before .before .before .shaped .ensures) (c .before .before .before .before .before .before .before .before .before .before .memory-map .ensures) (c .before .before .before .before .before .before .before .before .before .chain-odd-even .ensures) (c .before .before .before .before .before .before .before .before .judge-address .ensures) in
+    let l = located _ _ _ _ (a0 (a .address)) j _ _ (c .before .before .before .before .before .before .offset .given .1) in
     let h = access-accepted (mem (a .p0 .now) (a .p1 .now) (a .p2 .now) (a .p3 .now) (a .picture .now)) (a .gc .registers) (a .seq) (a .address) (a .page) (sym (l .accepted)) in
     (h .shaped, (omega (arith, l .offset, h .offset), (access-fits (a .gc .registers) (a .seq) (shape (mem (a .p0 .now) (a .p1 .now) (a .p2 .now) (a .p3 .now) (a .picture .now))) (a .address) (a .page) (l .accepted) .1, l .bit0)))
 
@@ -45,8 +58,9 @@ same-length-5 c = search needs
 
 returns : tie.Need-returns
 returns c =
-    let a = c .before .before .before .before .before .before .before .before .before .before .before .before .before .before .args in
-    write-refused (a .gc) (a .seq) (mem (a .p0 .now) (a .p1 .now) (a .p2 .now) (a .p3 .now) (a .picture .now)) (a .address) (a .page) (a .byte) _ (refusal-some (c .before .x .given .0 .0)) (unlocated _ _ _ _ (a0 (a .address)) (c .before .before .before .judge .ensures) _ (c .before .x .given .1))
+    let a = c .before .before .before .before .before .before .before .before .before .before .before .before .before .before .before .before .before .before .before .args in
+    let j = judged (a .gc .registers) (a .seq) (mem (a .p0 .now) (a .p1 .now) (a .p2 .now) (a .p3 .now) (a .picture .now)) (a .address) (a .page) (c .before .before .before .judge-address .result) _ _ _ _ (c .before .before .before .before .before .before .before .before .before .before .before .before .fits-both .ensures) (c .before .before .before .before .before .before .shaped .ensures) (c .before .before .before .before .before .memory-map .ensures) (c .before .before .before .before .chain-odd-even .ensures) (c .before .before .before .judge-address .ensures) in
+    write-refused (a .gc) (a .seq) (mem (a .p0 .now) (a .p1 .now) (a .p2 .now) (a .p3 .now) (a .picture .now)) (a .address) (a .page) (a .byte) _ (refusal-some (c .before .x .given .0 .0)) (unlocated _ _ _ _ (a0 (a .address)) j _ (c .before .x .given .1))
 
 same-length-6 : tie.Need-same-length-6
 same-length-6 c = search needs
@@ -65,15 +79,20 @@ same-length-10 c = search needs
 
 returns-2 : tie.Need-returns-2
 returns-2 c =
-    let a = c .before .before .before .before .before .before .before .before .before .before .before .before .before .before .before .before .before .before .before .before .before .before .before .before .before .before .before .before .before .before .before .args in
-    let l = located _ _ _ _ (a0 (a .address)) (c .before .before .before .before .before .before .before .before .before .before .before .before .before .before .before .before .before .before .before .before .judge .ensures) _ _ (c .before .before .before .before .before .before .before .before .before .before .before .before .before .before .before .before .before .before .offset .given .1) in
+    let a = c .before .before .before .before .before .before .before .before .before .before .before .before .before .before .before .before .before .before .before .before .before .before .before .before .before .before .before .before .before .before .before .before .before .before .before .before .args in
+    let j = judged (a .gc .registers) (a .seq) (mem (a .p0 .now) (a .p1 .now) (a .p2 .now) (a .p3 .now) (a .picture .now)) (a .address) (a .page) (c .before .before .before .before .before .before .before .before .before .before .before .before .before .before .before .before .before .before .before .before .judge-address .result) _ _ _ _ (c .before .before .before .before .before .before .before .before .before .before .before .before .before .before .before .before .before .before .before .before .before .before .before .before .before .before .before .before .before .fits-both .ensures) (c .before .before .before .before .before .before .before .before .before .before .before .before .before .before .before .before .before .before .before .before .before .before .before .shaped .ensures) (c .before .before .before .before .before .before .before .before .before .before .before .before .before .before .before .before .before .before .before .before .before .before .memory-map .ensures) (c .before .before .before .before .before .before .before .before .before .before .before .before .before .before .before .before .before .before .before .before .before .chain-odd-even .ensures) (c .before .before .before .before .before .before .before .before .before .before .before .before .before .before .before .before .before .before .before .before .judge-address .ensures) in
+    let l = located _ _ _ _ (a0 (a .address)) j _ _ (c .before .before .before .before .before .before .before .before .before .before .before .before .before .before .before .before .before .before .offset .given .1) in
     write-done (a .gc) (a .seq) (mem (a .p0 .now) (a .p1 .now) (a .p2 .now) (a .p3 .now) (a .picture .now)) (a .address) (a .page) (a .byte) _ _ _ _ (l .accepted) (l .offset) (c .wrote .ensures) (c .before .before .before .before .before .before .before .before .before .before .before .write-planes .ensures)
 
 pub cpu-write-u8-spec : {M : Type 1} → statement M
 cpu-write-u8-spec =
     tie.close
     (tie.spec
-    judge-requires
+    fits-both-requires
+    shaped-requires
+    memory-map-requires
+    chain-odd-even-requires
+    judge-address-requires
     enum-known-x
     enum-known-offset
     write-planes-requires
