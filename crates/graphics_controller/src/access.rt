@@ -2,13 +2,11 @@
 ghost use mathlib.Core.Path.{_≡_};
 ghost use Prim.Native.Nat.{_<_, _≤_};
 ghost use lib.ListN.{length};
-ghost use Rattle.bits.specs.Bit.{bitOf};
 ghost use Rattle.machine.specs.Memory.{lent, before, after, shape, Shaped};
-ghost use Rattle.machine.specs.Answers.{said, one, two, outcome, answered, byteSaid, storeSaid, mappedSaid};
-ghost use Rattle.machine.specs.Address.{a0 as bit0, offset as offsetOf};
+ghost use Rattle.machine.specs.Answers.{said, one, outcome, byteSaid, storeSaid};
 ghost use Rattle.machine.specs.Graphics.{gcOf, writeMode};
 ghost use Rattle.machine.specs.Deeds.{loaded};
-ghost use Rattle.machine.specs.Calls.{accessNumber, counted, writeCounter, cpuRead, cpuPeek, cpuWrite};
+ghost use Rattle.machine.specs.Calls.{counted, writeCounter, cpuRead, cpuPeek, cpuWrite};
 ghost use Rattle.machine.specs.Step.{device, cpuStep};
 ghost use Rattle.graphics_controller.specs.Reads.{readByte};
 use crate::address::judge_address;
@@ -25,7 +23,6 @@ use machine::GraphicsController;
 use machine::GraphicsRegisters;
 use machine::MappedAnswer;
 use machine::ReadMode;
-use machine::Refusal;
 use machine::Sequencer;
 use machine::StoreAnswer;
 
