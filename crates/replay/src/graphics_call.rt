@@ -1,0 +1,53 @@
+// Calls on the controller's record: the record as it is left, and the answer.
+use crate::said;
+use crate::said::Said;
+use machine::GraphicsController;
+
+pub struct GraphicsLeft {
+    pub gc: GraphicsController,
+    pub said: Said,
+}
+
+pub fn ports(operation: usize, a: usize, page: bool, gc: GraphicsController) -> GraphicsLeft {
+    match operation {
+        27 => GraphicsLeft {
+            gc: graphics_controller::reset(gc),
+            said: said::given(0),
+        },
+        35 => {
+            let r = graphics_controller::write_address(gc, (a % 256) as u8);
+            let answer = r.answer;
+            let next = r.gc;
+            GraphicsLeft {
+                gc: next,
+                said: said::done(answer),
+            }
+        }
+        36 => {
+            let r = graphics_controller::write_data(gc, (a % 256) as u8);
+            let answer = r.answer;
+            let next = r.gc;
+            GraphicsLeft {
+                gc: next,
+                said: said::done(answer),
+            }
+        }
+        _ => GraphicsLeft {
+            gc,
+            said: asks(operation, a, page, gc),
+        },
+    }
+}
+
+fn asks(operation: usize, a: usize, page: bool, gc: GraphicsController) -> Said {
+    match operation {
+        28 => said::flag(graphics_controller::chain(gc)),
+        29 => said::flag(graphics_controller::chain4(gc)),
+        30 => said::map(graphics_controller::memory_map(gc)),
+        31 => said::odd_even(graphics_controller::odd_even(gc)),
+        32 => said::shift(graphics_controller::shift_mode(gc)),
+        33 => said::byte(graphics_controller::read_address(gc)),
+        34 => said::byte(graphics_controller::read_data(gc)),
+        _ => said::mapped(graphics_controller::map_address(gc, a, page)),
+    }
+}
