@@ -1,6 +1,8 @@
 // Calls on the controller's record: the record as it is left, and the answer.
+use crate::line::Call;
 use crate::said;
 use crate::said::Said;
+use crate::store_call::byte;
 use machine::GraphicsController;
 
 pub struct GraphicsLeft {
@@ -8,14 +10,15 @@ pub struct GraphicsLeft {
     pub said: Said,
 }
 
-pub fn ports(operation: usize, a: usize, page: bool, gc: GraphicsController) -> GraphicsLeft {
+pub fn ports(call: Call, gc: GraphicsController) -> GraphicsLeft {
+    let operation = call.operation;
     match operation {
         27 => GraphicsLeft {
             gc: graphics_controller::reset(gc),
             said: said::given(0),
         },
         35 => {
-            let r = graphics_controller::write_address(gc, (a % 256) as u8);
+            let r = graphics_controller::write_address(gc, byte(call.first));
             let answer = r.answer;
             let next = r.gc;
             GraphicsLeft {
@@ -24,7 +27,7 @@ pub fn ports(operation: usize, a: usize, page: bool, gc: GraphicsController) -> 
             }
         }
         36 => {
-            let r = graphics_controller::write_data(gc, (a % 256) as u8);
+            let r = graphics_controller::write_data(gc, byte(call.first));
             let answer = r.answer;
             let next = r.gc;
             GraphicsLeft {
@@ -34,12 +37,13 @@ pub fn ports(operation: usize, a: usize, page: bool, gc: GraphicsController) -> 
         }
         _ => GraphicsLeft {
             gc,
-            said: asks(operation, a, page, gc),
+            said: asks(call, gc),
         },
     }
 }
 
-fn asks(operation: usize, a: usize, page: bool, gc: GraphicsController) -> Said {
+fn asks(call: Call, gc: GraphicsController) -> Said {
+    let operation = call.operation;
     match operation {
         28 => said::flag(graphics_controller::chain(gc)),
         29 => said::flag(graphics_controller::chain4(gc)),
@@ -48,6 +52,6 @@ fn asks(operation: usize, a: usize, page: bool, gc: GraphicsController) -> Said 
         32 => said::shift(graphics_controller::shift_mode(gc)),
         33 => said::byte(graphics_controller::read_address(gc)),
         34 => said::byte(graphics_controller::read_data(gc)),
-        _ => said::mapped(graphics_controller::map_address(gc, a, page)),
+        _ => said::mapped(graphics_controller::map_address(gc, call.first, call.second == 1)),
     }
 }

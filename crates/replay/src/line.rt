@@ -1,6 +1,15 @@
 // A line of a list: up to five decimal numbers, an operation and its arguments; '#' begins a comment.
 use std::num::wrapping_add_usize;
 
+// An operation's number and its arguments; those that it has not are 0.
+pub struct Call {
+    pub operation: usize,
+    pub first: usize,
+    pub second: usize,
+    pub third: usize,
+    pub fourth: usize,
+}
+
 pub struct Line {
     pub numbers: [usize; 5],
     // how many numbers are complete
@@ -20,8 +29,11 @@ impl Line {
         }
     }
 
-    // One byte more.
+    // One byte more. A newline begins a new line.
     pub fn feed(mut self, b: u8) -> Self {
+        if b == b'\n' {
+            return Line::new();
+        }
         if self.comment {
             return self;
         }
@@ -56,8 +68,22 @@ impl Line {
         self
     }
 
-    // Whether the line has a call.
-    pub fn has_call(self) -> bool {
+    pub fn call(self) -> Call {
+        let n = self.numbers;
+        Call {
+            operation: n[0],
+            first: n[1],
+            second: n[2],
+            third: n[3],
+            fourth: n[4],
+        }
+    }
+
+    // Whether this byte ends the line, and the line has a call.
+    pub fn is_call(self, b: u8) -> bool {
+        if b != b'\n' {
+            return false;
+        }
         if self.open {
             return true;
         }

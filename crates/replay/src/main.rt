@@ -1,14 +1,13 @@
 // Runs a list of calls through the port and prints a line for each: what differential runs compare with the Rust.
-mod cpu_call;
 mod digest;
-mod direct_call;
 mod graphics_call;
 mod line;
+mod memory_call;
 mod print;
 mod said;
 mod sequencer_call;
 mod session;
-mod vram_call;
+mod store_call;
 
 use libc::STDIN_FILENO;
 use session::Session;

@@ -1,6 +1,8 @@
 // Calls on the sequencer's record: the record as it is left, and the answer.
+use crate::line::Call;
 use crate::said;
 use crate::said::Said;
+use crate::store_call::byte;
 use machine::Sequencer;
 
 pub struct SequencerLeft {
@@ -8,7 +10,8 @@ pub struct SequencerLeft {
     pub said: Said,
 }
 
-pub fn ports(operation: usize, byte: u8, seq: Sequencer) -> SequencerLeft {
+pub fn ports(call: Call, seq: Sequencer) -> SequencerLeft {
+    let operation = call.operation;
     match operation {
         11 => SequencerLeft {
             seq: sequencer::reset(seq),
@@ -33,7 +36,7 @@ pub fn ports(operation: usize, byte: u8, seq: Sequencer) -> SequencerLeft {
             }
         }
         17 => {
-            let r = sequencer::write_address(seq, byte);
+            let r = sequencer::write_address(seq, byte(call.first));
             let answer = r.answer;
             let next = r.seq;
             SequencerLeft {
@@ -42,7 +45,7 @@ pub fn ports(operation: usize, byte: u8, seq: Sequencer) -> SequencerLeft {
             }
         }
         18 => {
-            let r = sequencer::write_data(seq, byte);
+            let r = sequencer::write_data(seq, byte(call.first));
             let answer = r.answer;
             let next = r.seq;
             SequencerLeft {
@@ -52,7 +55,7 @@ pub fn ports(operation: usize, byte: u8, seq: Sequencer) -> SequencerLeft {
         }
         _ => SequencerLeft {
             seq,
-            said: asks(operation, seq),
+            said: asks(call.operation, seq),
         },
     }
 }
