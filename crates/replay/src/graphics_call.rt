@@ -4,6 +4,7 @@ use crate::said;
 use crate::said::Said;
 use crate::store_call::byte;
 use machine::GraphicsController;
+use machine::GraphicsDone;
 
 pub struct GraphicsLeft {
     pub gc: GraphicsController,
@@ -17,28 +18,21 @@ pub fn ports(call: Call, gc: GraphicsController) -> GraphicsLeft {
             gc: graphics_controller::reset(gc),
             said: said::given(0),
         },
-        35 => {
-            let r = graphics_controller::write_address(gc, byte(call.first));
-            let answer = r.answer;
-            let next = r.gc;
-            GraphicsLeft {
-                gc: next,
-                said: said::done(answer),
-            }
-        }
-        36 => {
-            let r = graphics_controller::write_data(gc, byte(call.first));
-            let answer = r.answer;
-            let next = r.gc;
-            GraphicsLeft {
-                gc: next,
-                said: said::done(answer),
-            }
-        }
+        35 => left(graphics_controller::write_address(gc, byte(call.first))),
+        36 => left(graphics_controller::write_data(gc, byte(call.first))),
         _ => GraphicsLeft {
             gc,
             said: asks(call, gc),
         },
+    }
+}
+
+fn left(r: GraphicsDone) -> GraphicsLeft {
+    let kept = r.gc;
+    let answer = r.answer;
+    GraphicsLeft {
+        gc: kept,
+        said: said::done(answer),
     }
 }
 

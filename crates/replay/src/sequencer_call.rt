@@ -4,6 +4,7 @@ use crate::said;
 use crate::said::Said;
 use crate::store_call::byte;
 use machine::Sequencer;
+use machine::SequencerDone;
 
 pub struct SequencerLeft {
     pub seq: Sequencer,
@@ -17,46 +18,31 @@ pub fn ports(call: Call, seq: Sequencer) -> SequencerLeft {
             seq: sequencer::reset(seq),
             said: said::given(0),
         },
-        13 => {
-            let r = sequencer::set_clock_change_pending(seq);
-            let answer = r.answer;
-            let next = r.seq;
-            SequencerLeft {
-                seq: next,
-                said: said::done(answer),
-            }
-        }
+        13 => left(sequencer::set_clock_change_pending(seq)),
         14 => {
             let r = sequencer::poll_clock_change(seq);
+            let kept = r.seq;
             let answer = r.answer;
-            let next = r.seq;
             SequencerLeft {
-                seq: next,
+                seq: kept,
                 said: said::flag(answer),
             }
         }
-        17 => {
-            let r = sequencer::write_address(seq, byte(call.first));
-            let answer = r.answer;
-            let next = r.seq;
-            SequencerLeft {
-                seq: next,
-                said: said::done(answer),
-            }
-        }
-        18 => {
-            let r = sequencer::write_data(seq, byte(call.first));
-            let answer = r.answer;
-            let next = r.seq;
-            SequencerLeft {
-                seq: next,
-                said: said::done(answer),
-            }
-        }
+        17 => left(sequencer::write_address(seq, byte(call.first))),
+        18 => left(sequencer::write_data(seq, byte(call.first))),
         _ => SequencerLeft {
             seq,
-            said: asks(call.operation, seq),
+            said: asks(operation, seq),
         },
+    }
+}
+
+fn left(r: SequencerDone) -> SequencerLeft {
+    let kept = r.seq;
+    let answer = r.answer;
+    SequencerLeft {
+        seq: kept,
+        said: said::done(answer),
     }
 }
 

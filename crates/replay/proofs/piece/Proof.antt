@@ -1,13 +1,14 @@
 -- `piece` is safe and ends: the place is at most the length of the input, which it nears; the memory keeps its lengths.
 use Prim.Native.Nat.{_≤_, _<_, _-_, _^_}
-use mathlib.Core.Path.{_≡_}
 use lib.ListN.{length}
+use Rattle.replay.proofs.Lengths.{Kept}
 use borrow.Author.Needs.{needs}
 use Rattle.replay.proofs.piece.Statement.{statement}
 use Rattle.replay.proofs.piece.Tie as tie
 
 abbrev Inv-loop : tie.InvT-loop
-Inv-loop input p0₀ p1₀ p2₀ p3₀ picture₀ next₀ i₀ p0 p1 p2 p3 picture next i = (i ≤ length input) × (length input < 2 ^ 64) × (length p0 ≡ length p0₀) × (length p1 ≡ length p1₀) × (length p2 ≡ length p2₀) × (length p3 ≡ length p3₀) × (length picture ≡ length picture₀)
+Inv-loop input p0₀ p1₀ p2₀ p3₀ picture₀ next₀ i₀ p0 p1 p2 p3 picture next i =
+    (i ≤ length input) × (length input < 2 ^ 64) × Kept p0 p1 p2 p3 picture p0₀ p1₀ p2₀ p3₀ picture₀
 
 abbrev μ-loop : tie.MeasureT-loop
 μ-loop input p0₀ p1₀ p2₀ p3₀ picture₀ next₀ i₀ p0 p1 p2 p3 picture next i = length input - i

@@ -1,12 +1,12 @@
 -- `run` is safe and ends: ever fewer pieces are left; the memory keeps its lengths.
-use mathlib.Core.Path.{_≡_}
-use lib.ListN.{length}
+use Rattle.replay.proofs.Lengths.{Kept}
 use borrow.Author.Needs.{needs}
 use Rattle.replay.proofs.run.Statement.{statement}
 use Rattle.replay.proofs.run.Tie as tie
 
 abbrev Inv-loop : tie.InvT-loop
-Inv-loop p0₀ p1₀ p2₀ p3₀ picture₀ session₀ left₀ p0 p1 p2 p3 picture session left = (length p0 ≡ length p0₀) × (length p1 ≡ length p1₀) × (length p2 ≡ length p2₀) × (length p3 ≡ length p3₀) × (length picture ≡ length picture₀)
+Inv-loop p0₀ p1₀ p2₀ p3₀ picture₀ session₀ left₀ p0 p1 p2 p3 picture session left =
+    Kept p0 p1 p2 p3 picture p0₀ p1₀ p2₀ p3₀ picture₀
 
 abbrev μ-loop : tie.MeasureT-loop
 μ-loop p0₀ p1₀ p2₀ p3₀ picture₀ session₀ left₀ p0 p1 p2 p3 picture session left = left
