@@ -22,11 +22,12 @@ impl Generator {
         }
     }
 
-    /// A call with one argument out of range where `refused`.
+    /// A call with an argument out of range where `refused`, at times with both plane and offset.
     fn direct_call(&mut self, refused: bool) {
         let bad_plane = refused && self.random.chance(50);
         let plane = if bad_plane { self.plane_refused() } else { self.plane() };
-        let offset = if refused && !bad_plane { self.offset_refused() } else { self.offset() };
+        let bad_offset = refused && (!bad_plane || self.random.chance(30));
+        let offset = if bad_offset { self.offset_refused() } else { self.offset() };
         let place = if refused { self.place_refused() } else { self.place() };
         let (a0, byte) = (self.bit(), self.byte());
         match self.random.below(12) {

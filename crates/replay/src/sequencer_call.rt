@@ -1,0 +1,55 @@
+// Calls on the sequencer's record: the record as it is left, and the answer.
+use crate::line::Call;
+use crate::said;
+use crate::said::Said;
+use crate::store_call::byte;
+use machine::Sequencer;
+use machine::SequencerDone;
+
+pub struct SequencerLeft {
+    pub seq: Sequencer,
+    pub said: Said,
+}
+
+pub fn ports(call: Call, seq: Sequencer) -> SequencerLeft {
+    let operation = call.operation;
+    match operation {
+        11 => SequencerLeft {
+            seq: sequencer::reset(seq),
+            said: said::given(0),
+        },
+        13 => left(sequencer::set_clock_change_pending(seq)),
+        14 => {
+            let r = sequencer::poll_clock_change(seq);
+            let kept = r.seq;
+            let answer = r.answer;
+            SequencerLeft {
+                seq: kept,
+                said: said::flag(answer),
+            }
+        }
+        17 => left(sequencer::write_address(seq, byte(call.first))),
+        18 => left(sequencer::write_data(seq, byte(call.first))),
+        _ => SequencerLeft {
+            seq,
+            said: asks(operation, seq),
+        },
+    }
+}
+
+fn left(r: SequencerDone) -> SequencerLeft {
+    let kept = r.seq;
+    let answer = r.answer;
+    SequencerLeft {
+        seq: kept,
+        said: said::done(answer),
+    }
+}
+
+fn asks(operation: usize, seq: Sequencer) -> Said {
+    match operation {
+        12 => said::clock(sequencer::clock(seq)),
+        15 => said::byte(sequencer::read_address(seq)),
+        _ => said::byte(sequencer::read_data(seq)),
+    }
+}

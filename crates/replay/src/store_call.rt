@@ -1,0 +1,95 @@
+// Calls that store, of each layer.
+use crate::graphics_call::GraphicsLeft;
+use crate::line::Call;
+use crate::said::Said;
+use crate::said::done;
+use crate::said::store;
+use graphics_controller::cpu_write_u8;
+use machine::GraphicsController;
+use machine::PlaneOffset;
+use machine::Sequencer;
+use sequencer::plane_and;
+use sequencer::plane_or;
+use sequencer::plane_set;
+
+pub fn is_store(operation: usize) -> bool {
+    match operation {
+        6..=10 | 24..=26 | 40 => true,
+        _ => false,
+    }
+}
+
+pub fn byte(n: usize) -> u8 {
+    (n % 256) as u8
+}
+
+pub fn stores(
+    call: Call,
+    gc: GraphicsController,
+    seq: Sequencer,
+    p0: &mut [u8],
+    p1: &mut [u8],
+    p2: &mut [u8],
+    p3: &mut [u8],
+    picture: &mut [u8],
+) -> GraphicsLeft {
+    if call.operation == 40 {
+        let page = call.second == 1;
+        let x = byte(call.third);
+        let r = cpu_write_u8(gc, seq, p0, p1, p2, p3, picture, call.first, page, x);
+        let kept = r.gc;
+        let answer = r.answer;
+        return GraphicsLeft {
+            gc: kept,
+            said: store(answer),
+        };
+    }
+    if call.operation <= 10 {
+        let said = on_memory(call, p0, p1, p2, p3, picture);
+        return GraphicsLeft { gc, said };
+    }
+    let said = on_sequencer(call, seq, p0, p1, p2, p3, picture);
+    GraphicsLeft { gc, said }
+}
+
+fn on_memory(
+    call: Call,
+    p0: &mut [u8],
+    p1: &mut [u8],
+    p2: &mut [u8],
+    p3: &mut [u8],
+    picture: &mut [u8],
+) -> Said {
+    let plane = call.first;
+    let o = PlaneOffset(call.second);
+    let x = byte(call.third);
+    let operation = call.operation;
+    match operation {
+        6 => store(vram::write_u8(p0, p1, p2, p3, picture, plane, o, x)),
+        7 => store(vram::plane_set(p0, p1, p2, p3, picture, plane, o, x)),
+        8 => store(vram::plane_and(p0, p1, p2, p3, picture, plane, o, x)),
+        9 => store(vram::plane_or(p0, p1, p2, p3, picture, plane, o, x)),
+        _ => done(vram::deplane(p0, p1, p2, p3, picture, PlaneOffset(plane))),
+    }
+}
+
+fn on_sequencer(
+    call: Call,
+    seq: Sequencer,
+    p0: &mut [u8],
+    p1: &mut [u8],
+    p2: &mut [u8],
+    p3: &mut [u8],
+    picture: &mut [u8],
+) -> Said {
+    let plane = call.first;
+    let o = PlaneOffset(call.second);
+    let a0 = call.third == 1;
+    let x = byte(call.fourth);
+    let operation = call.operation;
+    match operation {
+        24 => store(plane_set(seq, p0, p1, p2, p3, picture, plane, o, a0, x)),
+        25 => store(plane_and(seq, p0, p1, p2, p3, picture, plane, o, a0, x)),
+        _ => store(plane_or(seq, p0, p1, p2, p3, picture, plane, o, a0, x)),
+    }
+}
