@@ -1,0 +1,13 @@
+-- `of_controller` copies field by field: from `graphics_number`.
+use borrow.Author.Needs.{needs}
+use Rattle.host.proofs.record.of_controller.Statement.{statement}
+use Rattle.host.proofs.record.of_controller.Tie as tie
+
+graphics-number-requires : tie.Need-graphics-number-requires
+graphics-number-requires c κs = search needs
+
+returns : tie.Need-returns
+returns c = rw (c .graphics-number .ensures)
+
+pub of-controller-spec : {M : Type 1} → statement M
+of-controller-spec = tie.close (tie.spec graphics-number-requires returns)
