@@ -2,16 +2,26 @@
 use mathlib.Core.Bool.{Bool, _&&_}
 use lib.Dec.{leb}
 use Rattle.machine.specs.declared.graphics.GraphicsController.{GraphicsController}
+use Rattle.machine.specs.declared.graphics.GraphicsControllerStats.{GraphicsControllerStats}
 use Rattle.machine.specs.declared.graphics.GraphicsRegister.the-variants.{BitMask}
 use Rattle.machine.specs.declared.sequencer.Sequencer.{Sequencer}
 use Rattle.machine.specs.Graphics.{selects, registerNumber, gcOf}
 use Rattle.machine.specs.Sequencer.{selectsSeq, seqNumber}
+use Rattle.host.specs.declared.record.StatsRecord.{StatsRecord}
 use Rattle.host.specs.declared.record.ControllerRecord.{ControllerRecord}
 use Rattle.host.specs.declared.record.SequencerRecord.{SequencerRecord}
 
 -- whether the selected registers are registers' numbers: 0 to 8, and 0 to 5, `Invalid` the last
 abbrev pub known : ControllerRecord → SequencerRecord → Bool
 known g s = leb (g .«register_selected») 8 && leb (s .«register_selected») 5
+
+-- the counters
+abbrev pub statsOf : StatsRecord → GraphicsControllerStats
+statsOf c = record { «mode_0_writes» = c .«mode_0_writes»; «mode_1_writes» = c .«mode_1_writes»; «mode_2_writes» = c .«mode_2_writes»; «mode_3_writes» = c .«mode_3_writes»; «mode_0_reads» = c .«mode_0_reads»; «mode_1_reads» = c .«mode_1_reads» }
+
+-- the counters as a host keeps them
+abbrev pub statsRecordOf : GraphicsControllerStats → StatsRecord
+statsRecordOf c = record { «mode_0_writes» = c .«mode_0_writes»; «mode_1_writes» = c .«mode_1_writes»; «mode_2_writes» = c .«mode_2_writes»; «mode_3_writes» = c .«mode_3_writes»; «mode_0_reads» = c .«mode_0_reads»; «mode_1_reads» = c .«mode_1_reads» }
 
 -- the controller that a host's record of known number means
 abbrev pub controllerOf : ControllerRecord → GraphicsController
@@ -29,19 +39,13 @@ controllerOf g = gcOf
       «color_dont_care» = g .«color_dont_care»;
       bitmask = g .bitmask;
     })
-    (record {
-      «mode_0_writes» = g .«mode_0_writes»;
-      «mode_1_writes» = g .«mode_1_writes»;
-      «mode_2_writes» = g .«mode_2_writes»;
-      «mode_3_writes» = g .«mode_3_writes»;
-      «mode_0_reads» = g .«mode_0_reads»;
-      «mode_1_reads» = g .«mode_1_reads»;
-    })
+    (statsOf (g .stats))
     (g .latches)
 
 -- a controller as a host keeps it
 abbrev pub recordOf : GraphicsController → ControllerRecord
 recordOf g = record {
+  stats = statsRecordOf (g .stats);
   «register_select_byte» = g .registers .«register_select_byte»;
   «register_selected» = registerNumber (g .registers .«register_selected»);
   «set_reset» = g .registers .«set_reset»;
@@ -54,12 +58,24 @@ recordOf g = record {
   «color_dont_care» = g .registers .«color_dont_care»;
   bitmask = g .registers .bitmask;
   latches = g .latches;
-  «mode_0_writes» = g .stats .«mode_0_writes»;
-  «mode_1_writes» = g .stats .«mode_1_writes»;
-  «mode_2_writes» = g .stats .«mode_2_writes»;
-  «mode_3_writes» = g .stats .«mode_3_writes»;
-  «mode_0_reads» = g .stats .«mode_0_reads»;
-  «mode_1_reads» = g .stats .«mode_1_reads»;
+}
+
+-- a host's record with other counters
+abbrev pub withStats : StatsRecord → ControllerRecord → ControllerRecord
+withStats c g = record {
+  stats = c;
+  «register_select_byte» = g .«register_select_byte»;
+  «register_selected» = g .«register_selected»;
+  «set_reset» = g .«set_reset»;
+  «enable_set_reset» = g .«enable_set_reset»;
+  «color_compare» = g .«color_compare»;
+  «data_rotate» = g .«data_rotate»;
+  «read_map_select» = g .«read_map_select»;
+  mode = g .mode;
+  miscellaneous = g .miscellaneous;
+  «color_dont_care» = g .«color_dont_care»;
+  bitmask = g .bitmask;
+  latches = g .latches;
 }
 
 -- the sequencer that a host's record of known number means

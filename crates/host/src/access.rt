@@ -3,28 +3,28 @@ ghost use mathlib.Core.Path.{_≡_};
 ghost use Rattle.machine.specs.Memory.{before, after};
 ghost use Rattle.machine.specs.Answers.{outcome, said, one};
 ghost use Rattle.machine.specs.Calls.{cpuRead, cpuWrite};
+ghost use Rattle.host.specs.Records.{withStats};
 ghost use Rattle.host.specs.Hosted.{answerSaid, held, cpuHosted};
 use crate::answer::Answer;
 use crate::answer::ControllerAnswer;
+use crate::answer::StatsAnswer;
 use crate::answer::of_byte;
 use crate::answer::of_store;
 use crate::record::ControllerRecord;
 use crate::record::SequencerRecord;
 use crate::record::known;
 use crate::record::of_controller;
+use crate::record::of_stats;
 use crate::record::to_controller;
 use crate::record::to_sequencer;
 
-// What a refusal 6 for a number that selects no register leaves: the record as it was handed in.
-fn unknown(gc: ControllerRecord) -> ControllerAnswer
-    ensures { λ r. ⌜ (answerSaid (r .answer) ≡ said 6 (one 0)) × (r .gc ≡ gc) ⌝ }
+// Refusal 6, for a number that selects no register.
+fn unknown() -> Answer
+    ensures { λ r. ⌜ answerSaid r ≡ said 6 (one 0) ⌝ }
 {
-    ControllerAnswer {
-        answer: Answer {
-            number: 6,
-            value: 0,
-        },
-        gc,
+    Answer {
+        number: 6,
+        value: 0,
     }
 }
 
@@ -42,7 +42,10 @@ fn read_of(
     ensures { λ r. ⌜ outcome (answerSaid (r .answer)) (held (r .gc) (before p0 p1 p2 p3 picture)) ≡ cpuHosted gc seq (before p0 p1 p2 p3 picture) (one 0) (cpuRead address page) ⌝ }
 {
     if !known(gc, seq) {
-        return unknown(gc);
+        return ControllerAnswer {
+            answer: unknown(),
+            gc,
+        };
     }
     let controller = to_controller(gc);
     let sequencer = to_sequencer(seq);
@@ -65,6 +68,7 @@ fn read_of(
     }
 }
 
+// A write moves no register and no latch: the counters alone come back.
 fn write_of(
     gc: ControllerRecord,
     seq: SequencerRecord,
@@ -76,11 +80,15 @@ fn write_of(
     address: usize,
     page: bool,
     byte: u8,
-) -> ControllerAnswer
-    ensures { λ r. ⌜ outcome (answerSaid (r .answer)) (held (r .gc) (after p0 p1 p2 p3 picture)) ≡ cpuHosted gc seq (before p0 p1 p2 p3 picture) (one 0) (cpuWrite address page byte) ⌝ }
+) -> StatsAnswer
+    ensures { λ r. ⌜ outcome (answerSaid (r .answer)) (held (withStats (r .stats) gc) (after p0 p1 p2 p3 picture)) ≡ cpuHosted gc seq (before p0 p1 p2 p3 picture) (one 0) (cpuWrite address page byte) ⌝ }
 {
     if !known(gc, seq) {
-        return unknown(gc);
+        let stats = gc.stats;
+        return StatsAnswer {
+            answer: unknown(),
+            stats,
+        };
     }
     let controller = to_controller(gc);
     let sequencer = to_sequencer(seq);
@@ -98,9 +106,10 @@ fn write_of(
     );
     let answer = r.answer;
     let next = r.gc;
-    ControllerAnswer {
+    let stats = next.stats;
+    StatsAnswer {
         answer: of_store(answer),
-        gc: of_controller(next),
+        stats: of_stats(stats),
     }
 }
 
@@ -139,6 +148,6 @@ pub extern "C" fn iddesmar_gc_cpu_write_u8(
     ensures { λ r. ⌜ outcome (answerSaid r) (held (now (gc .exit)) (after p0 p1 p2 p3 picture)) ≡ cpuHosted (now (gc .entry)) seq (before p0 p1 p2 p3 picture) (one 0) (cpuWrite address page byte) ⌝ }
 {
     let w = write_of(*gc, seq, p0, p1, p2, p3, picture, address, page, byte);
-    *gc = w.gc;
+    gc.stats = w.stats;
     w.answer
 }

@@ -3,6 +3,7 @@ ghost use mathlib.Core.Path.{_≡_};
 ghost use Rattle.machine.specs.Answers.{byteSaid, storeSaid};
 ghost use Rattle.host.specs.Hosted.{answerSaid};
 use crate::record::ControllerRecord;
+use crate::record::StatsRecord;
 use machine::ByteAnswer;
 use machine::StoreAnswer;
 
@@ -16,6 +17,12 @@ pub struct Answer {
 pub struct ControllerAnswer {
     pub answer: Answer,
     pub gc: ControllerRecord,
+}
+
+// An answer and the counters as they are left.
+pub struct StatsAnswer {
+    pub answer: Answer,
+    pub stats: StatsRecord,
 }
 
 pub fn of_byte(answer: ByteAnswer) -> Answer

@@ -4,7 +4,7 @@ ghost use mathlib.Core.Bool.{_&&_};
 ghost use lib.Dec.{leb};
 ghost use Rattle.machine.specs.Graphics.{selects, registerNumber};
 ghost use Rattle.machine.specs.Sequencer.{selectsSeq, seqNumber};
-ghost use Rattle.host.specs.Records.{controllerOf, recordOf, sequencerOf, sequencerRecordOf, known as knows};
+ghost use Rattle.host.specs.Records.{statsOf, statsRecordOf, controllerOf, recordOf, sequencerOf, sequencerRecordOf, known as knows};
 use machine::GraphicsController;
 use machine::GraphicsControllerStats;
 use machine::GraphicsRegister;
@@ -12,8 +12,20 @@ use machine::GraphicsRegisters;
 use machine::Sequencer;
 use machine::SequencerRegister;
 
+// The counters.
+#[repr(C)]
+pub struct StatsRecord {
+    pub mode_0_writes: u32,
+    pub mode_1_writes: u32,
+    pub mode_2_writes: u32,
+    pub mode_3_writes: u32,
+    pub mode_0_reads: u32,
+    pub mode_1_reads: u32,
+}
+
 #[repr(C)]
 pub struct ControllerRecord {
+    pub stats: StatsRecord,
     pub register_select_byte: u8,
     pub register_selected: u8,
     pub set_reset: u8,
@@ -26,12 +38,6 @@ pub struct ControllerRecord {
     pub color_dont_care: u8,
     pub bitmask: u8,
     pub latches: [u8; 4],
-    pub mode_0_writes: u32,
-    pub mode_1_writes: u32,
-    pub mode_2_writes: u32,
-    pub mode_3_writes: u32,
-    pub mode_0_reads: u32,
-    pub mode_1_reads: u32,
 }
 
 #[repr(C)]
@@ -116,11 +122,38 @@ fn sequencer_number(register: SequencerRegister) -> u8
     }
 }
 
+pub fn to_stats(stats: StatsRecord) -> GraphicsControllerStats
+    ensures { λ r. ⌜ r ≡ statsOf stats ⌝ }
+{
+    GraphicsControllerStats {
+        mode_0_writes: stats.mode_0_writes,
+        mode_1_writes: stats.mode_1_writes,
+        mode_2_writes: stats.mode_2_writes,
+        mode_3_writes: stats.mode_3_writes,
+        mode_0_reads: stats.mode_0_reads,
+        mode_1_reads: stats.mode_1_reads,
+    }
+}
+
+pub fn of_stats(stats: GraphicsControllerStats) -> StatsRecord
+    ensures { λ r. ⌜ r ≡ statsRecordOf stats ⌝ }
+{
+    StatsRecord {
+        mode_0_writes: stats.mode_0_writes,
+        mode_1_writes: stats.mode_1_writes,
+        mode_2_writes: stats.mode_2_writes,
+        mode_3_writes: stats.mode_3_writes,
+        mode_0_reads: stats.mode_0_reads,
+        mode_1_reads: stats.mode_1_reads,
+    }
+}
+
 // A host's record as the machine's; callers ask `known` first.
 pub fn to_controller(gc: ControllerRecord) -> GraphicsController
     ensures { λ r. ⌜ r ≡ controllerOf gc ⌝ }
 {
     let latches = gc.latches;
+    let stats = gc.stats;
     GraphicsController {
         registers: GraphicsRegisters {
             register_select_byte: gc.register_select_byte,
@@ -135,14 +168,7 @@ pub fn to_controller(gc: ControllerRecord) -> GraphicsController
             color_dont_care: gc.color_dont_care,
             bitmask: gc.bitmask,
         },
-        stats: GraphicsControllerStats {
-            mode_0_writes: gc.mode_0_writes,
-            mode_1_writes: gc.mode_1_writes,
-            mode_2_writes: gc.mode_2_writes,
-            mode_3_writes: gc.mode_3_writes,
-            mode_0_reads: gc.mode_0_reads,
-            mode_1_reads: gc.mode_1_reads,
-        },
+        stats: to_stats(stats),
         latches,
     }
 }
@@ -156,6 +182,7 @@ pub fn of_controller(gc: GraphicsController) -> ControllerRecord
     let latches = gc.latches;
     let selected = registers.register_selected;
     ControllerRecord {
+        stats: of_stats(stats),
         register_select_byte: registers.register_select_byte,
         register_selected: graphics_number(selected),
         set_reset: registers.set_reset,
@@ -168,12 +195,6 @@ pub fn of_controller(gc: GraphicsController) -> ControllerRecord
         color_dont_care: registers.color_dont_care,
         bitmask: registers.bitmask,
         latches,
-        mode_0_writes: stats.mode_0_writes,
-        mode_1_writes: stats.mode_1_writes,
-        mode_2_writes: stats.mode_2_writes,
-        mode_3_writes: stats.mode_3_writes,
-        mode_0_reads: stats.mode_0_reads,
-        mode_1_reads: stats.mode_1_reads,
     }
 }
 

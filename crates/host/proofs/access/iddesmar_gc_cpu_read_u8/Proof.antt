@@ -20,7 +20,7 @@ use contract.Monad.{Fun, fact}
 use contract.Running.{givenOf, tables, tablesOf}
 use types.Kit.{Given, ‵, raw, _⊛_, some, later, ⋆, _$_, _∵_, !, qed, by, move, keep, drop, use1, use2, split, join, pick, rewrite, fsplit, fsplit3, fjoin, fjoin3, feqI, feqL, suffices, frame, await, done}
 use types.Run.{look, init, store, forget, stop, hop, fld, from, load, addr, and-then, no-more, of-opd, assigns, land, returns, enter, alloc1, alloc0, params1, pass1, pass0, free1, free0}
-use types.Part.{whole, sub, look-in, agg}
+use types.Part.{whole, sub, look-in, store-in, agg}
 use types.SemTy.{Body}
 use sound.WpLaws.{FmC, fmOf, WpFn-mono}
 use denote.RattleType.{owns}
@@ -57,7 +57,7 @@ use Rattle.host.proofs.answer.Answer as N
 use Rattle.host.proofs.answer.Answer.Laws as N′
 use Rattle.host.proofs.answer.ControllerAnswer as R
 use Rattle.host.proofs.answer.ControllerAnswer.Laws as R′
-use Rattle.host.proofs.InPlace.{Bytes, gval, sval, rval, aval, head-is, gc-is, an-is}
+use Rattle.host.proofs.InPlace.{Bytes, gval, sval, head-is, rval, aval, an-is, gc-is}
 use Rattle.host.proofs.access.read_of as by-value
 use Rattle.host.proofs.access.read_of.Symbol as by-value-def
 use Rattle.host.proofs.access.read_of.Symbol.{name as #by-value}

@@ -20,7 +20,7 @@ use contract.Monad.{Fun, fact}
 use contract.Running.{givenOf, tables, tablesOf}
 use types.Kit.{Given, ‵, raw, _⊛_, some, later, ⋆, _$_, _∵_, !, qed, by, move, keep, drop, use1, use2, split, join, pick, rewrite, fsplit, fsplit3, fjoin, fjoin3, feqI, feqL, suffices, frame, await, done}
 use types.Run.{look, init, store, forget, stop, hop, fld, from, load, addr, and-then, no-more, of-opd, assigns, land, returns, enter, alloc1, alloc0, params1, pass1, pass0, free1, free0}
-use types.Part.{whole, sub, look-in, agg}
+use types.Part.{whole, sub, look-in, store-in, agg}
 use types.SemTy.{Body}
 use sound.WpLaws.{FmC, fmOf, WpFn-mono}
 use denote.RattleType.{owns}
@@ -48,16 +48,19 @@ use Rattle.machine.specs.Calls.{cpuWrite}
 use Rattle.host.specs.Hosted.{answerSaid, held, cpuHosted}
 use Rattle.host.specs.declared.record.ControllerRecord.{ControllerRecord}
 use Rattle.host.specs.declared.record.SequencerRecord.{SequencerRecord}
-use Rattle.host.specs.declared.answer.ControllerAnswer.{ControllerAnswer}
+use Rattle.host.specs.declared.answer.StatsAnswer.{StatsAnswer}
 use Rattle.host.proofs.record.ControllerRecord as G
 use Rattle.host.proofs.record.ControllerRecord.Laws as G′
 use Rattle.host.proofs.record.SequencerRecord as S
 use Rattle.host.proofs.record.SequencerRecord.Laws as S′
 use Rattle.host.proofs.answer.Answer as N
 use Rattle.host.proofs.answer.Answer.Laws as N′
-use Rattle.host.proofs.answer.ControllerAnswer as R
-use Rattle.host.proofs.answer.ControllerAnswer.Laws as R′
-use Rattle.host.proofs.InPlace.{Bytes, gval, sval, rval, aval, head-is, gc-is, an-is}
+use Rattle.host.proofs.answer.StatsAnswer as R
+use Rattle.host.proofs.answer.StatsAnswer.Laws as R′
+use Rattle.host.proofs.InPlace.{Bytes, gval, sval, head-is, stats-rval, stats-aval, stats-an-is, stats-is, stats-gc-is}
+use Rattle.host.specs.Records.{withStats}
+use Rattle.host.proofs.record.StatsRecord as T
+use Rattle.host.proofs.record.StatsRecord.Laws as T′
 use Rattle.host.proofs.access.write_of as by-value
 use Rattle.host.proofs.access.write_of.Symbol as by-value-def
 use Rattle.host.proofs.access.write_of.Symbol.{name as #by-value}
@@ -107,15 +110,15 @@ module _ {M : Type 1} (𝓤 : URA M) (H : Heap 𝓤) (A : Atoms 𝓤) (W : Given
   goes : ent 𝓤 (⋆ 𝓤 H A ((‵ (flft κ1 q1) ⊛ ‵ (flft κ2 q2) ⊛ ‵ (flft κ3 q3) ⊛ ‵ (flft κ4 q4) ⊛ ‵ (flft κ5 q5) ⊛ ‵ ftrue) ∷ ‵ (owns (G.the-row ∷ S.the-row ∷ MutSlice (named 0) κ1 u8 ∷ MutSlice (named 1) κ2 u8 ∷ MutSlice (named 2) κ3 u8 ∷ MutSlice (named 3) κ4 u8 ∷ MutSlice (named 4) κ5 u8 ∷ usize ∷ bool ∷ u8 ∷ []) (h, rest) (gval h ∷ [], restv)) ∷ [])) (Called 𝓤 H A at-mem run .pre to)
   goes = qed W ((‵ (flft κ1 q1) ⊛ ‵ (flft κ2 q2) ⊛ ‵ (flft κ3 q3) ⊛ ‵ (flft κ4 q4) ⊛ ‵ (flft κ5 q5) ⊛ ‵ ftrue) ∷ ‵ (owns (G.the-row ∷ S.the-row ∷ MutSlice (named 0) κ1 u8 ∷ MutSlice (named 1) κ2 u8 ∷ MutSlice (named 2) κ3 u8 ∷ MutSlice (named 3) κ4 u8 ∷ MutSlice (named 4) κ5 u8 ∷ usize ∷ bool ∷ u8 ∷ []) (h, rest) (gval h ∷ [], restv)) ∷ []) ∵ join ! $ frame ! $ done !
 
-  exits : (r : ControllerAnswer) (p0-end p1-end p2-end p3-end picture-end : List ℕ) → Is R.the-row r (rval r ∷ []) → outcome (answerSaid (r .answer)) (held (r .gc) (memory p0-end p1-end p2-end p3-end picture-end)) ≡ cpuHosted h seq (memory (p0 .now) (p1 .now) (p2 .now) (p3 .now) (picture .now)) (one 0) (cpuWrite address page byte) → length p0-end ≡ length (p0 .now) → length p1-end ≡ length (p1 .now) → length p2-end ≡ length (p2 .now) → length p3-end ≡ length (p3 .now) → length picture-end ≡ length (picture .now) → ent 𝓤 (⋆ 𝓤 H A (‵ (fobs γ (G.the-row .coded .code (r .gc))) ∷ ‵ (fbor κ0 (Body (mem G.the-row) b o γ)) ∷ ‵ (flft κ0 q0) ∷ (‵ (flft κ1 q1) ⊛ ‵ (flft κ2 q2) ⊛ ‵ (flft κ3 q3) ⊛ ‵ (flft κ4 q4) ⊛ ‵ (flft κ5 q5) ⊛ ‵ ftrue) ∷ ‵ (finally u8 (p0 .name) p0-end) ∷ ‵ (finally u8 (p1 .name) p1-end) ∷ ‵ (finally u8 (p2 .name) p2-end) ∷ ‵ (finally u8 (p3 .name) p3-end) ∷ ‵ (finally u8 (picture .name) picture-end) ∷ [])) (Post (aval r))
+  exits : (r : StatsAnswer) (p0-end p1-end p2-end p3-end picture-end : List ℕ) → Is R.the-row r (stats-rval r ∷ []) → outcome (answerSaid (r .answer)) (held (withStats (r .stats) h) (memory p0-end p1-end p2-end p3-end picture-end)) ≡ cpuHosted h seq (memory (p0 .now) (p1 .now) (p2 .now) (p3 .now) (picture .now)) (one 0) (cpuWrite address page byte) → length p0-end ≡ length (p0 .now) → length p1-end ≡ length (p1 .now) → length p2-end ≡ length (p2 .now) → length p3-end ≡ length (p3 .now) → length picture-end ≡ length (picture .now) → ent 𝓤 (⋆ 𝓤 H A (‵ (fobs γ (G.the-row .coded .code (withStats (r .stats) h))) ∷ ‵ (fbor κ0 (Body (mem G.the-row) b o γ)) ∷ ‵ (flft κ0 q0) ∷ (‵ (flft κ1 q1) ⊛ ‵ (flft κ2 q2) ⊛ ‵ (flft κ3 q3) ⊛ ‵ (flft κ4 q4) ⊛ ‵ (flft κ5 q5) ⊛ ‵ ftrue) ∷ ‵ (finally u8 (p0 .name) p0-end) ∷ ‵ (finally u8 (p1 .name) p1-end) ∷ ‵ (finally u8 (p2 .name) p2-end) ∷ ‵ (finally u8 (p3 .name) p3-end) ∷ ‵ (finally u8 (picture .name) picture-end) ∷ [])) (Post (stats-aval r))
   exits r p0-end p1-end p2-end p3-end picture-end is e p0-long p1-long p2-long p3-long picture-long =
-      qed W (‵ (fobs γ (G.the-row .coded .code (r .gc))) ∷ ‵ (fbor κ0 (Body (mem G.the-row) b o γ)) ∷ ‵ (flft κ0 q0) ∷ (‵ (flft κ1 q1) ⊛ ‵ (flft κ2 q2) ⊛ ‵ (flft κ3 q3) ⊛ ‵ (flft κ4 q4) ⊛ ‵ (flft κ5 q5) ⊛ ‵ ftrue) ∷ ‵ (finally u8 (p0 .name) p0-end) ∷ ‵ (finally u8 (p1 .name) p1-end) ∷ ‵ (finally u8 (p2 .name) p2-end) ∷ ‵ (finally u8 (p3 .name) p3-end) ∷ ‵ (finally u8 (picture .name) picture-end) ∷ []) ∵
-      suffices ! _ (ends-at 𝓤 H A place.ended stayed (place.clauses 𝓤 H A at-mem run) W (((κ0, (κ1, (κ2, (κ3, (κ4, (κ5, tt)))))), (q0, (q1, (q2, (q3, (q4, (q5, tt)))))), tt, a, vals), tt) (aval r) (r .answer) (r .gc, (tt, (p0-end, (p1-end, (p2-end, (p3-end, (picture-end, (tt, (tt, (tt, tt)))))))))) (tt, (tt, (p0-long, (p1-long, (p2-long, (p3-long, (picture-long, (tt, (tt, (tt, tt))))))))))) $ says ! e $
+      qed W (‵ (fobs γ (G.the-row .coded .code (withStats (r .stats) h))) ∷ ‵ (fbor κ0 (Body (mem G.the-row) b o γ)) ∷ ‵ (flft κ0 q0) ∷ (‵ (flft κ1 q1) ⊛ ‵ (flft κ2 q2) ⊛ ‵ (flft κ3 q3) ⊛ ‵ (flft κ4 q4) ⊛ ‵ (flft κ5 q5) ⊛ ‵ ftrue) ∷ ‵ (finally u8 (p0 .name) p0-end) ∷ ‵ (finally u8 (p1 .name) p1-end) ∷ ‵ (finally u8 (p2 .name) p2-end) ∷ ‵ (finally u8 (p3 .name) p3-end) ∷ ‵ (finally u8 (picture .name) picture-end) ∷ []) ∵
+      suffices ! _ (ends-at 𝓤 H A place.ended stayed (place.clauses 𝓤 H A at-mem run) W (((κ0, (κ1, (κ2, (κ3, (κ4, (κ5, tt)))))), (q0, (q1, (q2, (q3, (q4, (q5, tt)))))), tt, a, vals), tt) (stats-aval r) (r .answer) (withStats (r .stats) h, (tt, (p0-end, (p1-end, (p2-end, (p3-end, (picture-end, (tt, (tt, (tt, tt)))))))))) (tt, (tt, (p0-long, (p1-long, (p2-long, (p3-long, (picture-long, (tt, (tt, (tt, tt))))))))))) $ says ! e $
       move ! (2 ∷ 3 ∷ []) $ join ! $ frame ! $
       -- [obs; the borrow; the last lists]
       nothing ! $ nothing ! $ fjoin ! $ nothing ! $ fjoin ! $ nothing ! $ fjoin ! $ move ! (7 ∷ 0 ∷ []) $ fjoin ! $ move ! (6 ∷ 0 ∷ []) $ fjoin ! $ move ! (5 ∷ 0 ∷ []) $ fjoin ! $ move ! (4 ∷ 0 ∷ []) $ fjoin ! $ move ! (3 ∷ 0 ∷ []) $ fjoin ! $ nothing ! $ fjoin ! $
       feqI ! (List Val) (vptr b o ∷ []) (vptr b o ∷ []) refl $ move ! (0 ∷ 2 ∷ 3 ∷ []) $ fjoin3 ! $ fjoin ! $
-      owned ! N.the-row (Is N.the-row) (LL.makes N.the-type N′.the-plain 𝓤 H A) (r .answer) _ (an-is r is) $ move ! (1 ∷ 0 ∷ []) $ done !
+      owned ! N.the-row (Is N.the-row) (LL.makes N.the-type N′.the-plain 𝓤 H A) (r .answer) _ (stats-an-is r is) $ move ! (1 ∷ 0 ∷ []) $ done !
 
   module _ (C : Calls 𝓤 H) (Λ : Loops 𝓤 H) (fm : FmC 𝓤 H (W .laws) C) (known : Triple 𝓤 (C #by-value) (Called 𝓤 H A at-mem run)) where
     walk : ent 𝓤 (onEntry 𝓤 H A place.signature (κ0, (κ1, (κ2, (κ3, (κ4, (κ5, tt)))))) (q0, (q1, (q2, (q3, (q4, (q5, tt)))))) a vals) (WpFn 𝓤 H C Λ code.function (vptr b o ∷ sval seq ∷ sliceVal (p0 .ptr) (length (p0 .now)) ∷ sliceVal (p1 .ptr) (length (p1 .now)) ∷ sliceVal (p2 .ptr) (length (p2 .now)) ∷ sliceVal (p3 .ptr) (length (p3 .now)) ∷ sliceVal (picture .ptr) (length (picture .now)) ∷ vint w64 address ∷ vbool page ∷ vint w8 byte ∷ []) Post)
@@ -154,9 +157,9 @@ module _ {M : Type 1} (𝓤 : URA M) (H : Heap 𝓤) (A : Atoms 𝓤) (W : Given
         owned ! G.the-row (Is G.the-row) (LL.makes G.the-type G′.the-plain 𝓤 H A) h _ g $ move ! (0 ∷ 7 ∷ []) $ fjoin ! $ move ! (6 ∷ 0 ∷ []) $
         use2 W (raw (Called 𝓤 H A at-mem run .pre to)) goes $
         calls-at ! fm (Called 𝓤 H A at-mem run) known to (and-then ! (load ! (from ! (stop !)) (look ! 26 refl)) (and-then ! (load ! (from ! (stop !)) (look ! 46 refl)) (and-then ! (load ! (from ! (stop !)) (look ! 22 refl)) (and-then ! (load ! (from ! (stop !)) (look ! 18 refl)) (and-then ! (load ! (from ! (stop !)) (look ! 14 refl)) (and-then ! (load ! (from ! (stop !)) (look ! 10 refl)) (and-then ! (load ! (from ! (stop !)) (look ! 6 refl)) (and-then ! (load ! (from ! (stop !)) (look ! 34 refl)) (and-then ! (load ! (from ! (stop !)) (look ! 32 refl)) (and-then ! (load ! (from ! (stop !)) (look ! 30 refl)) (no-more !))))))))))) (λ w.
-        use1 W (later (some (λ (r : ControllerAnswer). ((‵ (flft κ1 q1) ⊛ ‵ (flft κ2 q2) ⊛ ‵ (flft κ3 q3) ⊛ ‵ (flft κ4 q4) ⊛ ‵ (flft κ5 q5) ⊛ ‵ ftrue) ⊛ ‵ (R.the-row .own r (w ∷ []))) ⊛ raw (ensured 𝓤 H A by-value.ended (by-value.clauses 𝓤 H A at-mem run) κs (h, rest) tt r)))) (id⊢ 𝓤 _) $ await ! tt $ pick ! (λ r.
-        split ! $ move ! (1 ∷ []) $ use1 W (some (λ (zs : Unit {0} × (Unit {0} × (List ℕ × (List ℕ × (List ℕ × (List ℕ × (List ℕ × (Unit {0} × (Unit {0} × (Unit {0} × Unit {0})))))))))). ‵ (lasts by-value.ended κs (h, rest) zs) ⊛ raw (fact 𝓤 (outcome (answerSaid (r .answer)) (held (r .gc) (memory (zs .1 .1 .0) (zs .1 .1 .1 .0) (zs .1 .1 .1 .1 .0) (zs .1 .1 .1 .1 .1 .0) (zs .1 .1 .1 .1 .1 .1 .0))) ≡ cpuHosted h seq (memory (p0 .now) (p1 .now) (p2 .now) (p3 .now) (picture .now)) (one 0) (cpuWrite address page byte))))) (id⊢ 𝓤 _) $ pick ! (λ zs.
-        split ! $ move ! (1 ∷ []) $ heard ! (outcome (answerSaid (r .answer)) (held (r .gc) (memory (zs .1 .1 .0) (zs .1 .1 .1 .0) (zs .1 .1 .1 .1 .0) (zs .1 .1 .1 .1 .1 .0) (zs .1 .1 .1 .1 .1 .1 .0))) ≡ cpuHosted h seq (memory (p0 .now) (p1 .now) (p2 .now) (p3 .now) (picture .now)) (one 0) (cpuWrite address page byte)) (λ e.
+        use1 W (later (some (λ (r : StatsAnswer). ((‵ (flft κ1 q1) ⊛ ‵ (flft κ2 q2) ⊛ ‵ (flft κ3 q3) ⊛ ‵ (flft κ4 q4) ⊛ ‵ (flft κ5 q5) ⊛ ‵ ftrue) ⊛ ‵ (R.the-row .own r (w ∷ []))) ⊛ raw (ensured 𝓤 H A by-value.ended (by-value.clauses 𝓤 H A at-mem run) κs (h, rest) tt r)))) (id⊢ 𝓤 _) $ await ! tt $ pick ! (λ r.
+        split ! $ move ! (1 ∷ []) $ use1 W (some (λ (zs : Unit {0} × (Unit {0} × (List ℕ × (List ℕ × (List ℕ × (List ℕ × (List ℕ × (Unit {0} × (Unit {0} × (Unit {0} × Unit {0})))))))))). ‵ (lasts by-value.ended κs (h, rest) zs) ⊛ raw (fact 𝓤 (outcome (answerSaid (r .answer)) (held (withStats (r .stats) h) (memory (zs .1 .1 .0) (zs .1 .1 .1 .0) (zs .1 .1 .1 .1 .0) (zs .1 .1 .1 .1 .1 .0) (zs .1 .1 .1 .1 .1 .1 .0))) ≡ cpuHosted h seq (memory (p0 .now) (p1 .now) (p2 .now) (p3 .now) (picture .now)) (one 0) (cpuWrite address page byte))))) (id⊢ 𝓤 _) $ pick ! (λ zs.
+        split ! $ move ! (1 ∷ []) $ heard ! (outcome (answerSaid (r .answer)) (held (withStats (r .stats) h) (memory (zs .1 .1 .0) (zs .1 .1 .1 .0) (zs .1 .1 .1 .1 .0) (zs .1 .1 .1 .1 .1 .0) (zs .1 .1 .1 .1 .1 .1 .0))) ≡ cpuHosted h seq (memory (p0 .now) (p1 .now) (p2 .now) (p3 .now) (picture .now)) (one 0) (cpuWrite address page byte)) (λ e.
         fsplit ! $ drop ! $
         fsplit ! $ drop ! $
         fsplit ! $ fsplit ! $ move ! (1 ∷ []) $ feqL ! (λ m0. move ! (1 ∷ []) $
@@ -167,16 +170,16 @@ module _ {M : Type 1} (𝓤 : URA M) (H : Heap 𝓤) (A : Atoms 𝓤) (W : Given
         drop ! $ move ! (5 ∷ []) $ split ! $ move ! (1 ∷ []) $
         -- [what the answer owns; the tokens; the last lists; cell; own; open; obs; auth; the last local; …]
         peeks ! R.the-row (Is R.the-row) (shows 𝓤 H A R.the-row) r (w ∷ []) (λ is.
-        let we : w ≡ rval r = head-is w (rval r) (LL.tells R.the-type R′.the-laws r (w ∷ []) is) in
-        rewrite ! 0 (λ (v : Val). ‵ (R.the-row .own r (v ∷ []))) we refl $ peeks ! R.the-row (Is R.the-row) (shows 𝓤 H A R.the-row) r (rval r ∷ []) (λ is′.
+        let we : w ≡ stats-rval r = head-is w (stats-rval r) (LL.tells R.the-type R′.the-laws r (w ∷ []) is) in
+        rewrite ! 0 (λ (v : Val). ‵ (R.the-row .own r (v ∷ []))) we refl $ peeks ! R.the-row (Is R.the-row) (shows 𝓤 H A R.the-row) r (stats-rval r ∷ []) (λ is′.
         land ! (from ! (stop !)) (init ! 34 refl (LL.lawful R.the-type R′.the-laws 𝓤 H A W .typed r _ is .0)) $
         rewrite ! 34 (λ (v : Val). ‵ (fat fullShare R′.mir l11 0 v)) we refl $
-        assigns ! (of-opd ! (load ! (from ! (fld ! refl (stop !))) (look-in ! 34 (sub ! 1 refl (whole !))))) (from ! (hop ! (look ! 54 refl) (stop !))) (store ! 7 refl (LL.lawful G.the-type G′.the-laws 𝓤 H A W .typed (r .gc) _ (gc-is r is′) .0)) $
-        assigns ! (of-opd ! (load ! (from ! (fld ! refl (stop !))) (look-in ! 34 (sub ! 0 refl (whole !))))) (from ! (stop !)) (init ! 56 refl (LL.lawful N.the-type N′.the-laws 𝓤 H A W .typed (r .answer) _ (an-is r is′) .0)) $
+        assigns ! (of-opd ! (load ! (from ! (fld ! refl (stop !))) (look-in ! 34 (sub ! 1 refl (whole !))))) (from ! (hop ! (look ! 54 refl) (fld ! refl (stop !)))) (store-in ! 7 (sub ! 0 refl (whole !)) (LL.lawful T.the-type T′.the-laws 𝓤 H A W .typed (r .stats) _ (stats-is r is′) .0)) $
+        assigns ! (of-opd ! (load ! (from ! (fld ! refl (stop !))) (look-in ! 34 (sub ! 0 refl (whole !))))) (from ! (stop !)) (init ! 56 refl (LL.lawful N.the-type N′.the-laws 𝓤 H A W .typed (r .answer) _ (stats-an-is r is′) .0)) $
         -- the borrow is closed at the new record
-        move ! (8 ∷ []) $ drop ! $ owned ! G.the-row (Is G.the-row) (LL.makes G.the-type G′.the-plain 𝓤 H A) (r .gc) _ (gc-is r is′) $
-        move ! (8 ∷ []) $ use1 W (‵ (cellAt fullShare (G.the-row .mir) (gval (r .gc) ∷ []) b o)) (W .laws .at-raw fullShare G′.mir b o (gval (r .gc))) $
-        move ! (0 ∷ 1 ∷ 9 ∷ 10 ∷ 11 ∷ []) $ closes ! tt G.the-row (r .gc) (gval (r .gc) ∷ []) b o $
+        move ! (8 ∷ []) $ drop ! $ owned ! G.the-row (Is G.the-row) (LL.makes G.the-type G′.the-plain 𝓤 H A) (withStats (r .stats) h) _ (stats-gc-is h g r is′) $
+        move ! (8 ∷ []) $ use1 W (‵ (cellAt fullShare (G.the-row .mir) (gval (withStats (r .stats) h) ∷ []) b o)) (W .laws .at-raw fullShare G′.mir b o (gval (withStats (r .stats) h))) $
+        move ! (0 ∷ 1 ∷ 9 ∷ 10 ∷ 11 ∷ []) $ closes ! tt G.the-row (withStats (r .stats) h) (gval (withStats (r .stats) h) ∷ []) b o $
         returns ! (look ! 54 refl) $
         forget ! 10 refl $ forget ! 12 refl $ forget ! 14 refl $ forget ! 16 refl $ forget ! 18 refl $ forget ! 20 refl $ forget ! 22 refl $ forget ! 24 refl $ forget ! 26 refl $ forget ! 28 refl $ forget ! 30 refl $ forget ! 32 refl $ forget ! 34 refl $ forget ! 36 refl $ forget ! 38 refl $ forget ! 40 refl $ forget ! 42 refl $ forget ! 44 refl $ forget ! 46 refl $ forget ! 48 refl $ forget ! 50 refl $ forget ! 52 refl $ forget ! 54 refl $
         move ! (54 ∷ 55 ∷ []) $ free1 ! $ move ! (52 ∷ 53 ∷ []) $ free1 ! $ move ! (50 ∷ 51 ∷ []) $ free1 ! $ move ! (48 ∷ 49 ∷ []) $ free1 ! $ move ! (46 ∷ 47 ∷ []) $ free1 ! $ move ! (44 ∷ 45 ∷ []) $ free1 ! $ move ! (42 ∷ 43 ∷ []) $ free1 ! $ move ! (40 ∷ 41 ∷ []) $ free1 ! $ move ! (38 ∷ 39 ∷ []) $ free1 ! $ move ! (36 ∷ 37 ∷ []) $ free1 ! $ move ! (34 ∷ 35 ∷ []) $ free1 ! $ move ! (32 ∷ 33 ∷ []) $ free1 ! $ move ! (30 ∷ 31 ∷ []) $ free1 ! $ move ! (28 ∷ 29 ∷ []) $ free1 ! $ move ! (26 ∷ 27 ∷ []) $ free1 ! $ move ! (24 ∷ 25 ∷ []) $ free1 ! $ move ! (22 ∷ 23 ∷ []) $ free1 ! $ move ! (20 ∷ 21 ∷ []) $ free1 ! $ move ! (18 ∷ 19 ∷ []) $ free1 ! $ move ! (16 ∷ 17 ∷ []) $ free1 ! $ move ! (14 ∷ 15 ∷ []) $ free1 ! $ move ! (12 ∷ 13 ∷ []) $ free1 ! $ move ! (10 ∷ 11 ∷ []) $ free1 ! $ free0 ! $

@@ -1,10 +1,10 @@
 -- `read_of` answers 6 where a number selects no register, else as `cpu_read_u8` of the records that are meant.
-use mathlib.Core.Path.{sym, _∙_}
+use mathlib.Core.Path.{sym, refl, _∙_}
 use borrow.Author.Tests.{not-true, not-false}
-use borrow.Author.Needs.{needs}
 use Rattle.machine.specs.Memory.{mem}
 use Rattle.machine.specs.Answers.{one}
 use Rattle.host.proofs.Laws.{cpu-unknown, cpu-known}
+use borrow.Author.Needs.{needs}
 use Rattle.host.proofs.access.read_of.Statement.{statement}
 use Rattle.host.proofs.access.read_of.Tie as tie
 
@@ -17,7 +17,7 @@ unknown-requires c κs = search needs
 returns : tie.Need-returns
 returns c =
     let a = c .before .before .before .before .before .before .before .before .args in
-    cpu-unknown (a .gc) (a .seq) (mem (a .p0 .now) (a .p1 .now) (a .p2 .now) (a .p3 .now) (a .picture .now)) (one 0) _ (sym (not-true _ (c .before .if1 .taken)) ∙ c .before .before .known .ensures) _ _ (c .unknown .ensures .0) (c .unknown .ensures .1)
+    cpu-unknown (a .gc) (a .seq) (mem (a .p0 .now) (a .p1 .now) (a .p2 .now) (a .p3 .now) (a .picture .now)) (one 0) _ (sym (not-true _ (c .before .if1 .taken)) ∙ c .before .before .known .ensures) _ _ (c .unknown .ensures) refl
 
 to-controller-requires : tie.Need-to-controller-requires
 to-controller-requires c κs = search needs
