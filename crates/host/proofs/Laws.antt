@@ -3,7 +3,9 @@ use Prim.Native.Nat.{ℕ, zero, suc, _<_, _≤_}
 use native.Mathlib.Omega.{arith}
 use mathlib.Core.Path.{_≡_, refl, sym, ap, subst, _∙_}
 use mathlib.Core.Bool.{Bool, true, false}
+use mathlib.Core.List.{List, [], _∷_}
 use lib.Dec.{leb}
+use lib.ListN.{length, getD}
 use borrow.Author.Tests.{leb-true}
 use Rattle.machine.specs.declared.graphics.GraphicsRegister.the-variants.{BitMask}
 use Rattle.machine.specs.declared.graphics.GraphicsController.{GraphicsController}
@@ -13,16 +15,18 @@ use Rattle.machine.specs.declared.sequencer.Sequencer.{Sequencer}
 use Rattle.machine.specs.Memory.{Memory, shape}
 use Rattle.machine.specs.Answers.{Value, Said, said, Outcome, outcome, answered}
 use Rattle.machine.specs.Graphics.{selects, registerNumber, gcOf, writeMode}
+use Rattle.machine.specs.Sequencer.{selectsSeq, seqNumber}
 use Rattle.machine.specs.Address.{offset}
 use Rattle.machine.specs.Deeds.{latchesAfter, memoryAfter, valueOf}
-use Rattle.machine.specs.Calls.{CpuCall, cpuWrite, CpuPlan, cpuPlan, writeDeed}
-use Rattle.machine.specs.Step.{Device, device, cpuAfter, cpuPerform, cpuStep}
+use Rattle.machine.specs.Calls.{SequencerCall, DirectCall, GraphicsCall, CpuCall, cpuWrite, CpuPlan, cpuPlan, writeDeed}
+use Rattle.machine.specs.Step.{Device, device, cpuAfter, cpuPerform, sequencerStep, directStep, graphicsStep, cpuStep}
 use Rattle.machine.proofs.Laws.{both}
 use Rattle.host.specs.declared.record.StatsRecord.{StatsRecord}
 use Rattle.host.specs.declared.record.ControllerRecord.{ControllerRecord}
 use Rattle.host.specs.declared.record.SequencerRecord.{SequencerRecord}
-use Rattle.host.specs.Records.{known, controllerOf, recordOf, sequencerOf, statsRecordOf, withStats}
-use Rattle.host.specs.Hosted.{held, heldOf, hosted, cpuHosted}
+use Rattle.host.specs.declared.answer.Shown.{Shown}
+use Rattle.host.specs.Records.{knownGc, knownSeq, known, controllerOf, recordOf, sequencerOf, sequencerRecordOf, statsRecordOf, withStats}
+use Rattle.host.specs.Hosted.{shownOf, held, heldOf, hosted, sequencerHosted, directHosted, graphicsHosted, cpuHosted}
 
 -- ---- registers by number
 
@@ -58,9 +62,66 @@ number-back (suc (suc (suc (suc (suc (suc (suc zero))))))) h = refl
 number-back (suc (suc (suc (suc (suc (suc (suc (suc zero)))))))) h = refl
 number-back (suc (suc (suc (suc (suc (suc (suc (suc (suc n))))))))) h = absurd (omega arith)
 
+seq-number-back : (n : ℕ) → n ≤ 5 → seqNumber (selectsSeq n) ≡ n
+unfolding selectsSeq
+seq-number-back zero h = refl
+seq-number-back (suc zero) h = refl
+seq-number-back (suc (suc zero)) h = refl
+seq-number-back (suc (suc (suc zero))) h = refl
+seq-number-back (suc (suc (suc (suc zero)))) h = refl
+seq-number-back (suc (suc (suc (suc (suc zero))))) h = refl
+seq-number-back (suc (suc (suc (suc (suc (suc n)))))) h = absurd (omega arith)
+
 -- a record of known number is kept as it is
-pub record-back : (g : ControllerRecord) (s : SequencerRecord) → true ≡ known g s → recordOf (controllerOf g) ≡ g
-record-back g s e = rw (number-back (g .«register_selected») (leb-true _ _ (both (leb (g .«register_selected») 8) _ (sym e) .0)))
+pub record-back : (g : ControllerRecord) → true ≡ knownGc g → recordOf (controllerOf g) ≡ g
+record-back g e = rw (number-back (g .«register_selected») (leb-true _ _ (sym e)))
+
+pub sequencer-back : (s : SequencerRecord) → true ≡ knownSeq s → sequencerRecordOf (sequencerOf s) ≡ s
+sequencer-back s e = rw (seq-number-back (s .«register_selected») (leb-true _ _ (sym e)))
+
+pub known-gc : (g : ControllerRecord) (s : SequencerRecord) → true ≡ known g s → true ≡ knownGc g
+known-gc g s e = sym (both (knownGc g) (knownSeq s) (sym e) .0)
+
+-- ---- calls on the sequencer's record
+
+module _ (s : SequencerRecord) (v : Value) (c : SequencerCall) where
+  pub seq-unknown : false ≡ knownSeq s → (a : Said) → a ≡ said 6 v → outcome a s ≡ sequencerHosted s v c
+  unfolding sequencerHosted
+  seq-unknown e a f = rw (← e, f)
+
+  pub seq-known : true ≡ knownSeq s → (s′ : Sequencer) → s′ ≡ sequencerOf s → (a b : Said) (n : Sequencer) (t : SequencerRecord) → b ≡ a → t ≡ sequencerRecordOf n
+      → outcome a n ≡ sequencerStep s′ c → outcome b t ≡ sequencerHosted s v c
+  unfolding sequencerHosted
+  seq-known e s′ j a b n t f k p = rw (← e, f, k, ← j) (ap (λ (o : Outcome Sequencer). outcome (o .answer) (sequencerRecordOf (o .next))) p)
+
+  pub seq-asked : true ≡ knownSeq s → (s′ : Sequencer) → s′ ≡ sequencerOf s → (a b : Said) → b ≡ a → outcome a s′ ≡ sequencerStep s′ c → outcome b s ≡ sequencerHosted s v c
+  seq-asked e s′ j a b f p = seq-known e s′ j a b s′ s f (sym (ap sequencerRecordOf j ∙ sequencer-back s e)) p
+
+-- ---- calls on the sequencer's record and memory
+
+module _ (s : SequencerRecord) (m : Memory) (v : Value) (c : DirectCall) where
+  pub direct-unknown : false ≡ knownSeq s → (a : Said) → a ≡ said 6 v → outcome a m ≡ directHosted s m v c
+  unfolding directHosted
+  direct-unknown e a f = rw (← e, f)
+
+  pub direct-known : true ≡ knownSeq s → (s′ : Sequencer) → s′ ≡ sequencerOf s → (a b : Said) (m′ : Memory) → b ≡ a → outcome a m′ ≡ directStep s′ m c → outcome b m′ ≡ directHosted s m v c
+  unfolding directHosted
+  direct-known e s′ j a b m′ f p = rw (← e, f, ← j) p
+
+-- ---- calls on the controller's record
+
+module _ (g : ControllerRecord) (v : Value) (c : GraphicsCall) where
+  pub graphics-unknown : false ≡ knownGc g → (a : Said) → a ≡ said 6 v → outcome a g ≡ graphicsHosted g v c
+  unfolding graphicsHosted
+  graphics-unknown e a f = rw (← e, f)
+
+  pub graphics-known : true ≡ knownGc g → (g′ : GraphicsController) → g′ ≡ controllerOf g → (a b : Said) (n : GraphicsController) (h : ControllerRecord) → b ≡ a → h ≡ recordOf n
+      → outcome a n ≡ graphicsStep g′ c → outcome b h ≡ graphicsHosted g v c
+  unfolding graphicsHosted
+  graphics-known e g′ i a b n h f k p = rw (← e, f, k, ← i) (ap (λ (o : Outcome GraphicsController). outcome (o .answer) (recordOf (o .next))) p)
+
+  pub graphics-asked : true ≡ knownGc g → (g′ : GraphicsController) → g′ ≡ controllerOf g → (a b : Said) → b ≡ a → outcome a g′ ≡ graphicsStep g′ c → outcome b g ≡ graphicsHosted g v c
+  graphics-asked e g′ i a b f p = graphics-known e g′ i a b g′ g f (sym (ap recordOf i ∙ record-back g e)) p
 
 -- ---- calls on both records and memory
 
@@ -73,6 +134,26 @@ module _ (g : ControllerRecord) (s : SequencerRecord) (m : Memory) (v : Value) (
       → outcome a (device n m′) ≡ cpuStep g′ s′ m c → outcome b (held h m′) ≡ cpuHosted g s m v c
   unfolding cpuHosted
   cpu-known e g′ s′ i j a b n h m′ f k p = rw (← e, f, k, ← i, ← j) (ap (λ (o : Outcome Device). outcome (o .answer) (heldOf (o .next))) p)
+
+  pub cpu-asked : true ≡ known g s → (g′ : GraphicsController) (s′ : Sequencer) → g′ ≡ controllerOf g → s′ ≡ sequencerOf s → (a b : Said) → b ≡ a → outcome a (device g′ m) ≡ cpuStep g′ s′ m c → outcome b (held g m) ≡ cpuHosted g s m v c
+  cpu-asked e g′ s′ i j a b f p = cpu-known e g′ s′ i j a b g′ g m f (sym (ap recordOf i ∙ record-back g (known-gc g s e))) p
+
+-- the answer of a show, by value
+pub shown-of : {S : Type 0} (a : Said) (t : S) (o : Outcome S) (r : Shown) → r ≡ shownOf a → outcome a t ≡ o → r ≡ shownOf (o .answer)
+shown-of {S = S} a t o r f p = f ∙ ap (λ (o : Outcome S). shownOf (o .answer)) p
+
+-- eight entries are the list
+pub eight : (l : List ℕ) → length l ≡ 8 → getD l 0 0 ∷ getD l 1 0 ∷ getD l 2 0 ∷ getD l 3 0 ∷ getD l 4 0 ∷ getD l 5 0 ∷ getD l 6 0 ∷ getD l 7 0 ∷ [] ≡ l
+eight [] h = absurd (omega (arith, h))
+eight (x0 ∷ []) h = absurd (omega (arith, h))
+eight (x0 ∷ x1 ∷ []) h = absurd (omega (arith, h))
+eight (x0 ∷ x1 ∷ x2 ∷ []) h = absurd (omega (arith, h))
+eight (x0 ∷ x1 ∷ x2 ∷ x3 ∷ []) h = absurd (omega (arith, h))
+eight (x0 ∷ x1 ∷ x2 ∷ x3 ∷ x4 ∷ []) h = absurd (omega (arith, h))
+eight (x0 ∷ x1 ∷ x2 ∷ x3 ∷ x4 ∷ x5 ∷ []) h = absurd (omega (arith, h))
+eight (x0 ∷ x1 ∷ x2 ∷ x3 ∷ x4 ∷ x5 ∷ x6 ∷ []) h = absurd (omega (arith, h))
+eight (x0 ∷ x1 ∷ x2 ∷ x3 ∷ x4 ∷ x5 ∷ x6 ∷ x7 ∷ []) h = refl
+eight (x0 ∷ x1 ∷ x2 ∷ x3 ∷ x4 ∷ x5 ∷ x6 ∷ x7 ∷ x8 ∷ l) h = absurd (omega (arith, h))
 
 -- ---- a write moves counters and memory alone
 
@@ -109,4 +190,4 @@ module _ (g : ControllerRecord) (s : SequencerRecord) (m : Memory) (v : Value) (
       same = subst (λ (q : GraphicsController). Kept q n) i (subst (Kept g′) (sym (ap (λ (o : Outcome Device). o .next .gc) p)) (write-kept g′ s′ m x page y))
 
       stays : withStats t g ≡ recordOf n
-      stays = sym (ap recordOf same ∙ ap (withStats (statsRecordOf (n .stats))) (record-back g s e) ∙ ap (λ (t : StatsRecord). withStats t g) (sym k))
+      stays = sym (ap recordOf same ∙ ap (withStats (statsRecordOf (n .stats))) (record-back g (known-gc g s e)) ∙ ap (λ (t : StatsRecord). withStats t g) (sym k))

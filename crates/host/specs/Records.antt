@@ -11,9 +11,17 @@ use Rattle.host.specs.declared.record.StatsRecord.{StatsRecord}
 use Rattle.host.specs.declared.record.ControllerRecord.{ControllerRecord}
 use Rattle.host.specs.declared.record.SequencerRecord.{SequencerRecord}
 
--- whether the selected registers are registers' numbers: 0 to 8, and 0 to 5, `Invalid` the last
+-- whether the selected register is a register's number: 0 to 8
+abbrev pub knownGc : ControllerRecord → Bool
+knownGc g = leb (g .«register_selected») 8
+
+-- 0 to 5, `Invalid` the last
+abbrev pub knownSeq : SequencerRecord → Bool
+knownSeq s = leb (s .«register_selected») 5
+
+-- both
 abbrev pub known : ControllerRecord → SequencerRecord → Bool
-known g s = leb (g .«register_selected») 8 && leb (s .«register_selected») 5
+known g s = knownGc g && knownSeq s
 
 -- the counters
 abbrev pub statsOf : StatsRecord → GraphicsControllerStats

@@ -1,15 +1,20 @@
 // The processor's accesses on a record that is updated where it stands, and the same by value.
 ghost use mathlib.Core.Path.{_≡_};
+ghost use mathlib.Core.List.{[]};
 ghost use Rattle.machine.specs.Memory.{before, after};
-ghost use Rattle.machine.specs.Answers.{outcome, said, one};
-ghost use Rattle.machine.specs.Calls.{cpuRead, cpuWrite};
+ghost use Rattle.machine.specs.Answers.{one, part, outcome};
+ghost use Rattle.machine.specs.Calls.{cpuRead, cpuPeek, cpuWrite, serialize};
 ghost use Rattle.host.specs.Records.{withStats};
-ghost use Rattle.host.specs.Hosted.{answerSaid, held, cpuHosted};
+ghost use Rattle.host.specs.Hosted.{answerSaid, shownOf, held, cpuHosted};
 use crate::answer::Answer;
 use crate::answer::ControllerAnswer;
+use crate::answer::Shown;
 use crate::answer::StatsAnswer;
 use crate::answer::of_byte;
+use crate::answer::of_part;
 use crate::answer::of_store;
+use crate::answer::unknown;
+use crate::answer::unknown_shown;
 use crate::record::ControllerRecord;
 use crate::record::SequencerRecord;
 use crate::record::known;
@@ -17,16 +22,7 @@ use crate::record::of_controller;
 use crate::record::of_stats;
 use crate::record::to_controller;
 use crate::record::to_sequencer;
-
-// Refusal 6, for a number that selects no register.
-fn unknown() -> Answer
-    ensures { λ r. ⌜ answerSaid r ≡ said 6 (one 0) ⌝ }
-{
-    Answer {
-        number: 6,
-        value: 0,
-    }
-}
+use machine::PlaneOffset;
 
 fn read_of(
     gc: ControllerRecord,
@@ -150,4 +146,72 @@ pub extern "C" fn iddesmar_gc_cpu_write_u8(
     let w = write_of(*gc, seq, p0, p1, p2, p3, picture, address, page, byte);
     gc.stats = w.stats;
     w.answer
+}
+
+// Plane 0's byte; nothing moves.
+#[no_mangle]
+pub extern "C" fn iddesmar_gc_cpu_peek_u8(
+    gc: ControllerRecord,
+    seq: SequencerRecord,
+    p0: &[u8],
+    p1: &[u8],
+    p2: &[u8],
+    p3: &[u8],
+    picture: &[u8],
+    address: usize,
+    page: bool,
+) -> Answer
+    ensures { λ r. ⌜ outcome (answerSaid r) (held gc (before p0 p1 p2 p3 picture)) ≡ cpuHosted gc seq (before p0 p1 p2 p3 picture) (one 0) (cpuPeek address page) ⌝ }
+{
+    if !known(gc, seq) {
+        return unknown();
+    }
+    let controller = to_controller(gc);
+    let sequencer = to_sequencer(seq);
+    let answer = graphics_controller::cpu_peek_u8(
+        controller,
+        sequencer,
+        p0,
+        p1,
+        p2,
+        p3,
+        picture,
+        address,
+        page,
+    );
+    of_byte(answer)
+}
+
+// The eight pixels of an offset.
+#[no_mangle]
+pub extern "C" fn iddesmar_gc_serialize(
+    gc: ControllerRecord,
+    seq: SequencerRecord,
+    p0: &[u8],
+    p1: &[u8],
+    p2: &[u8],
+    p3: &[u8],
+    picture: &[u8],
+    offset: usize,
+) -> Shown
+    ensures { λ r. ⌜ r ≡ shownOf (cpuHosted gc seq (before p0 p1 p2 p3 picture) (part []) (serialize offset) .answer) ⌝ }
+{
+    if !known(gc, seq) {
+        return unknown_shown();
+    }
+    let controller = to_controller(gc);
+    let sequencer = to_sequencer(seq);
+    let mut number = 0u8;
+    let part = graphics_controller::serialize(
+        controller,
+        sequencer,
+        p0,
+        p1,
+        p2,
+        p3,
+        picture,
+        PlaneOffset(offset),
+        &mut number,
+    );
+    of_part(number, part)
 }

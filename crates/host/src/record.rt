@@ -4,7 +4,7 @@ ghost use mathlib.Core.Bool.{_&&_};
 ghost use lib.Dec.{leb};
 ghost use Rattle.machine.specs.Graphics.{selects, registerNumber};
 ghost use Rattle.machine.specs.Sequencer.{selectsSeq, seqNumber};
-ghost use Rattle.host.specs.Records.{statsOf, statsRecordOf, controllerOf, recordOf, sequencerOf, sequencerRecordOf, known as knows};
+ghost use Rattle.host.specs.Records.{statsOf, statsRecordOf, controllerOf, recordOf, sequencerOf, sequencerRecordOf, knownGc as knowsGc, knownSeq as knowsSeq, known as knows};
 use machine::GraphicsController;
 use machine::GraphicsControllerStats;
 use machine::GraphicsRegister;
@@ -54,14 +54,26 @@ pub struct SequencerRecord {
     pub char_clock: u32,
 }
 
-// Whether both selected registers are registers' numbers; a host can hand in any byte.
+// Whether the selected register is a register's number; a host can hand in any byte.
+pub fn known_controller(gc: ControllerRecord) -> bool
+    ensures { λ r. ⌜ r ≡ knowsGc gc ⌝ }
+{
+    gc.register_selected <= 8
+}
+
+pub fn known_sequencer(seq: SequencerRecord) -> bool
+    ensures { λ r. ⌜ r ≡ knowsSeq seq ⌝ }
+{
+    seq.register_selected <= 5
+}
+
 pub fn known(gc: ControllerRecord, seq: SequencerRecord) -> bool
     ensures { λ r. ⌜ r ≡ knows gc seq ⌝ }
 {
-    if gc.register_selected > 8 {
+    if !known_controller(gc) {
         return false;
     }
-    seq.register_selected <= 5
+    known_sequencer(seq)
 }
 
 fn graphics_register(number: u8) -> GraphicsRegister

@@ -13,10 +13,12 @@ refusal-number-requires : tie.Need-refusal-number-requires
 refusal-number-requires c κs = search needs
 
 returns : tie.Need-returns
-returns c = rw (c .before .answer .given .1)
+returns c =
+    rw (c .before .answer .given .1)
 
 returns-2 : tie.Need-returns-2
-returns-2 c = rw (c .before .before .answer2 .given .1, c .refusal-number .ensures)
+returns-2 c =
+    rw (c .before .before .answer2 .given .1, c .refusal-number .ensures)
 
 pub of-byte-spec : {M : Type 1} → statement M
 of-byte-spec =
