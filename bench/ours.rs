@@ -31,11 +31,18 @@ struct Answer {
     value: u8,
 }
 
+#[repr(C)]
+struct Shown {
+    number: u8,
+    pixels: [u8; 8],
+}
+
 type Part = *mut u8;
 
 extern "C" {
     fn iddesmar_gc_cpu_write_u8(gc: &mut Controller, seq: Sequencer, p0: Part, n0: usize, p1: Part, n1: usize, p2: Part, n2: usize, p3: Part, n3: usize, picture: Part, n: usize, address: usize, page: bool, byte: u8) -> Answer;
     fn iddesmar_gc_cpu_read_u8(gc: &mut Controller, seq: Sequencer, p0: *const u8, n0: usize, p1: *const u8, n1: usize, p2: *const u8, n2: usize, p3: *const u8, n3: usize, picture: *const u8, n: usize, address: usize, page: bool) -> Answer;
+    fn iddesmar_gc_serialize(gc: Controller, seq: Sequencer, p0: *const u8, n0: usize, p1: *const u8, n1: usize, p2: *const u8, n2: usize, p3: *const u8, n3: usize, picture: *const u8, n: usize, offset: usize) -> Shown;
 }
 
 struct Ours {
@@ -79,8 +86,17 @@ impl Machine for Ours {
         answer.value
     }
 
-    fn show(&mut self, _offset: usize) -> u8 {
-        0
+    fn show(&mut self, offset: usize) -> u8 {
+        let [p0, p1, p2, p3] = &self.planes;
+        let picture = &self.picture;
+        let shown = unsafe {
+            iddesmar_gc_serialize(
+                self.gc, self.seq,
+                p0.as_ptr(), p0.len(), p1.as_ptr(), p1.len(), p2.as_ptr(), p2.len(), p3.as_ptr(), p3.len(), picture.as_ptr(), picture.len(),
+                offset,
+            )
+        };
+        shown.pixels[0] + shown.pixels[7]
     }
 
     fn sum(&self) -> u64 {
