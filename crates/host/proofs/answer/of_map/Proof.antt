@@ -1,0 +1,35 @@
+-- `of_map` tells number and value: from `map_number` and `refusal_number`.
+use borrow.Author.Needs.{needs}
+use Rattle.host.proofs.answer.of_map.Statement.{statement}
+use Rattle.host.proofs.answer.of_map.Tie as tie
+
+enum-known-answer : tie.Need-enum-known-answer
+enum-known-answer c = search needs
+
+map-number-requires : tie.Need-map-number-requires
+map-number-requires c κs = search needs
+
+enum-known-answer-2 : tie.Need-enum-known-answer-2
+enum-known-answer-2 c = search needs
+
+refusal-number-requires : tie.Need-refusal-number-requires
+refusal-number-requires c κs = search needs
+
+returns : tie.Need-returns
+returns c =
+    rw (c .before .before .answer .given .1, c .map-number .ensures)
+
+returns-2 : tie.Need-returns-2
+returns-2 c =
+    rw (c .before .before .answer2 .given .1, c .refusal-number .ensures)
+
+pub of-map-spec : {M : Type 1} → statement M
+of-map-spec =
+    tie.close
+    (tie.spec
+    enum-known-answer
+    map-number-requires
+    enum-known-answer-2
+    refusal-number-requires
+    returns
+    returns-2)

@@ -1,0 +1,67 @@
+-- Refusal 6 where a number selects no register, else as `plane_set` of the record that is meant.
+use mathlib.Core.Path.{sym, ap, _∙_}
+use borrow.Author.Tests.{not-true, not-false}
+use Rattle.machine.specs.Memory.{mem}
+use Rattle.machine.specs.Answers.{one}
+use Rattle.host.specs.Hosted.{answerSaid}
+use Rattle.host.proofs.Laws.{direct-unknown, direct-known}
+use borrow.Author.Needs.{needs}
+use Rattle.host.proofs.direct.iddesmar_seq_plane_set.Statement.{statement}
+use Rattle.host.proofs.direct.iddesmar_seq_plane_set.Tie as tie
+
+known-sequencer-requires : tie.Need-known-sequencer-requires
+known-sequencer-requires c κs = search needs
+
+unknown-requires : tie.Need-unknown-requires
+unknown-requires c κs = search needs
+
+returns : tie.Need-returns
+returns c =
+    let a = c .before .before .before .before .before .before .before .before .args in
+    direct-unknown (a .seq) (mem (a .p0 .now) (a .p1 .now) (a .p2 .now) (a .p3 .now) (a .picture .now)) (one 0) _ (sym (not-true _ (c .before .if1 .taken)) ∙ c .before .before .known-sequencer .ensures) _ (ap answerSaid (c .unknown .ensures))
+
+to-sequencer-requires : tie.Need-to-sequencer-requires
+to-sequencer-requires c κs = search needs
+
+plane-set-requires : tie.Need-plane-set-requires
+plane-set-requires c κs = search needs
+
+of-store-requires : tie.Need-of-store-requires
+of-store-requires c κs = search needs
+
+same-length : tie.Need-same-length
+same-length c = search needs
+
+same-length-2 : tie.Need-same-length-2
+same-length-2 c = search needs
+
+same-length-3 : tie.Need-same-length-3
+same-length-3 c = search needs
+
+same-length-4 : tie.Need-same-length-4
+same-length-4 c = search needs
+
+same-length-5 : tie.Need-same-length-5
+same-length-5 c = search needs
+
+returns-2 : tie.Need-returns-2
+returns-2 c =
+    let a = c .before .before .before .before .before .before .before .before .before .before .before .before .before .before .before .before .before .before .before .before .before .before .before .before .before .args in
+    direct-known (a .seq) (mem (a .p0 .now) (a .p1 .now) (a .p2 .now) (a .p3 .now) (a .picture .now)) (one 0) _ (sym (not-false _ (c .before .before .before .before .before .before .before .before .before .before .before .before .before .before .before .before .before .before .if1 .left)) ∙ c .before .before .before .before .before .before .before .before .before .before .before .before .before .before .before .before .before .before .before .known-sequencer .ensures) _ (c .before .before .before .before .before .before .before .before .before .before .before .before .before .before .before .before .before .to-sequencer .ensures) _ _ _ (c .of-store .ensures) (c .before .before .before .before .before .before .before .before .before .before .before .plane-set .ensures)
+
+pub iddesmar-seq-plane-set-spec : {M : Type 1} → statement M
+iddesmar-seq-plane-set-spec =
+    tie.close
+    (tie.spec
+    known-sequencer-requires
+    unknown-requires
+    returns
+    to-sequencer-requires
+    plane-set-requires
+    of-store-requires
+    same-length
+    same-length-2
+    same-length-3
+    same-length-4
+    same-length-5
+    returns-2)

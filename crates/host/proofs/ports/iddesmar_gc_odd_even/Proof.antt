@@ -1,0 +1,44 @@
+-- Refusal 6 where a number selects no register, else as `odd_even` of the record that is meant.
+use mathlib.Core.Path.{sym, ap, _∙_}
+use borrow.Author.Tests.{not-true, not-false}
+use Rattle.machine.specs.Answers.{one}
+use Rattle.host.specs.Hosted.{answerSaid}
+use Rattle.host.proofs.Laws.{graphics-unknown, graphics-asked}
+use borrow.Author.Needs.{needs}
+use Rattle.host.proofs.ports.iddesmar_gc_odd_even.Statement.{statement}
+use Rattle.host.proofs.ports.iddesmar_gc_odd_even.Tie as tie
+
+known-controller-requires : tie.Need-known-controller-requires
+known-controller-requires c κs = search needs
+
+unknown-requires : tie.Need-unknown-requires
+unknown-requires c κs = search needs
+
+returns : tie.Need-returns
+returns c =
+    graphics-unknown (c .before .before .before .args .gc) (one 0) _ (sym (not-true _ (c .before .if1 .taken)) ∙ c .before .before .known-controller .ensures) _ (ap answerSaid (c .unknown .ensures))
+
+to-controller-requires : tie.Need-to-controller-requires
+to-controller-requires c κs = search needs
+
+odd-even-requires : tie.Need-odd-even-requires
+odd-even-requires c κs = search needs
+
+of-odd-even-requires : tie.Need-of-odd-even-requires
+of-odd-even-requires c κs = search needs
+
+returns-2 : tie.Need-returns-2
+returns-2 c =
+    graphics-asked (c .before .before .before .before .before .args .gc) (one 0) _ (sym (not-false _ (c .before .before .before .if1 .left)) ∙ c .before .before .before .before .known-controller .ensures) _ (c .before .before .to-controller .ensures) _ _ (c .of-odd-even .ensures) (c .before .odd-even .ensures)
+
+pub iddesmar-gc-odd-even-spec : {M : Type 1} → statement M
+iddesmar-gc-odd-even-spec =
+    tie.close
+    (tie.spec
+    known-controller-requires
+    unknown-requires
+    returns
+    to-controller-requires
+    odd-even-requires
+    of-odd-even-requires
+    returns-2)

@@ -1,0 +1,29 @@
+-- `reset_of` restores the start: from `reset`.
+use mathlib.Core.Path.{sym, ap, _∙_}
+use Rattle.machine.specs.declared.graphics.GraphicsController.{GraphicsController}
+use Rattle.machine.specs.Answers.{Outcome, outcome}
+use Rattle.host.specs.Records.{recordOf}
+use borrow.Author.Needs.{needs}
+use Rattle.host.proofs.ports.reset_of.Statement.{statement}
+use Rattle.host.proofs.ports.reset_of.Tie as tie
+
+to-controller-requires : tie.Need-to-controller-requires
+to-controller-requires c κs = search needs
+
+reset-requires : tie.Need-reset-requires
+reset-requires c κs = search needs
+
+done-requires : tie.Need-done-requires
+done-requires c κs = search needs
+
+of-controller-requires : tie.Need-of-controller-requires
+of-controller-requires c κs = search needs
+
+returns : tie.Need-returns
+returns c =
+    rw (c .before .done .ensures, c .of-controller .ensures, ← c .before .before .before .to-controller .ensures) (ap (λ (o : Outcome GraphicsController). outcome (o .answer) (recordOf (o .next))) (c .before .before .reset .ensures))
+
+pub reset-of-spec : {M : Type 1} → statement M
+reset-of-spec =
+    tie.close
+    (tie.spec to-controller-requires reset-requires done-requires of-controller-requires returns)

@@ -1,0 +1,217 @@
+// The processor's accesses on a record that is updated where it stands, and the same by value.
+ghost use mathlib.Core.Path.{_≡_};
+ghost use mathlib.Core.List.{[]};
+ghost use Rattle.machine.specs.Memory.{before, after};
+ghost use Rattle.machine.specs.Answers.{one, part, outcome};
+ghost use Rattle.machine.specs.Calls.{cpuRead, cpuPeek, cpuWrite, serialize};
+ghost use Rattle.host.specs.Records.{withStats};
+ghost use Rattle.host.specs.Hosted.{answerSaid, shownOf, held, cpuHosted};
+use crate::answer::Answer;
+use crate::answer::ControllerAnswer;
+use crate::answer::Shown;
+use crate::answer::StatsAnswer;
+use crate::answer::of_byte;
+use crate::answer::of_part;
+use crate::answer::of_store;
+use crate::answer::unknown;
+use crate::answer::unknown_shown;
+use crate::record::ControllerRecord;
+use crate::record::SequencerRecord;
+use crate::record::known;
+use crate::record::of_controller;
+use crate::record::of_stats;
+use crate::record::to_controller;
+use crate::record::to_sequencer;
+use machine::PlaneOffset;
+
+fn read_of(
+    gc: ControllerRecord,
+    seq: SequencerRecord,
+    p0: &[u8],
+    p1: &[u8],
+    p2: &[u8],
+    p3: &[u8],
+    picture: &[u8],
+    address: usize,
+    page: bool,
+) -> ControllerAnswer
+    ensures { λ r. ⌜ outcome (answerSaid (r .answer)) (held (r .gc) (before p0 p1 p2 p3 picture)) ≡ cpuHosted gc seq (before p0 p1 p2 p3 picture) (one 0) (cpuRead address page) ⌝ }
+{
+    if !known(gc, seq) {
+        return ControllerAnswer {
+            answer: unknown(),
+            gc,
+        };
+    }
+    let controller = to_controller(gc);
+    let sequencer = to_sequencer(seq);
+    let r = graphics_controller::cpu_read_u8(
+        controller,
+        sequencer,
+        p0,
+        p1,
+        p2,
+        p3,
+        picture,
+        address,
+        page,
+    );
+    let answer = r.answer;
+    let next = r.gc;
+    ControllerAnswer {
+        answer: of_byte(answer),
+        gc: of_controller(next),
+    }
+}
+
+// A write moves no register and no latch: the counters alone come back.
+fn write_of(
+    gc: ControllerRecord,
+    seq: SequencerRecord,
+    p0: &mut [u8],
+    p1: &mut [u8],
+    p2: &mut [u8],
+    p3: &mut [u8],
+    picture: &mut [u8],
+    address: usize,
+    page: bool,
+    byte: u8,
+) -> StatsAnswer
+    ensures { λ r. ⌜ outcome (answerSaid (r .answer)) (held (withStats (r .stats) gc) (after p0 p1 p2 p3 picture)) ≡ cpuHosted gc seq (before p0 p1 p2 p3 picture) (one 0) (cpuWrite address page byte) ⌝ }
+{
+    if !known(gc, seq) {
+        let stats = gc.stats;
+        return StatsAnswer {
+            answer: unknown(),
+            stats,
+        };
+    }
+    let controller = to_controller(gc);
+    let sequencer = to_sequencer(seq);
+    let r = graphics_controller::cpu_write_u8(
+        controller,
+        sequencer,
+        p0,
+        p1,
+        p2,
+        p3,
+        picture,
+        address,
+        page,
+        byte,
+    );
+    let answer = r.answer;
+    let next = r.gc;
+    let stats = next.stats;
+    StatsAnswer {
+        answer: of_store(answer),
+        stats: of_stats(stats),
+    }
+}
+
+#[no_mangle]
+pub extern "C" fn iddesmar_gc_cpu_read_u8(
+    gc: &mut ControllerRecord,
+    seq: SequencerRecord,
+    p0: &[u8],
+    p1: &[u8],
+    p2: &[u8],
+    p3: &[u8],
+    picture: &[u8],
+    address: usize,
+    page: bool,
+) -> Answer
+    ensures { λ r. ⌜ outcome (answerSaid r) (held (now (gc .exit)) (before p0 p1 p2 p3 picture)) ≡ cpuHosted (now (gc .entry)) seq (before p0 p1 p2 p3 picture) (one 0) (cpuRead address page) ⌝ }
+{
+    let w = read_of(*gc, seq, p0, p1, p2, p3, picture, address, page);
+    *gc = w.gc;
+    w.answer
+}
+
+#[no_mangle]
+pub extern "C" fn iddesmar_gc_cpu_write_u8(
+    gc: &mut ControllerRecord,
+    seq: SequencerRecord,
+    p0: &mut [u8],
+    p1: &mut [u8],
+    p2: &mut [u8],
+    p3: &mut [u8],
+    picture: &mut [u8],
+    address: usize,
+    page: bool,
+    byte: u8,
+) -> Answer
+    ensures { λ r. ⌜ outcome (answerSaid r) (held (now (gc .exit)) (after p0 p1 p2 p3 picture)) ≡ cpuHosted (now (gc .entry)) seq (before p0 p1 p2 p3 picture) (one 0) (cpuWrite address page byte) ⌝ }
+{
+    let w = write_of(*gc, seq, p0, p1, p2, p3, picture, address, page, byte);
+    gc.stats = w.stats;
+    w.answer
+}
+
+// Plane 0's byte; nothing moves.
+#[no_mangle]
+pub extern "C" fn iddesmar_gc_cpu_peek_u8(
+    gc: ControllerRecord,
+    seq: SequencerRecord,
+    p0: &[u8],
+    p1: &[u8],
+    p2: &[u8],
+    p3: &[u8],
+    picture: &[u8],
+    address: usize,
+    page: bool,
+) -> Answer
+    ensures { λ r. ⌜ outcome (answerSaid r) (held gc (before p0 p1 p2 p3 picture)) ≡ cpuHosted gc seq (before p0 p1 p2 p3 picture) (one 0) (cpuPeek address page) ⌝ }
+{
+    if !known(gc, seq) {
+        return unknown();
+    }
+    let controller = to_controller(gc);
+    let sequencer = to_sequencer(seq);
+    let answer = graphics_controller::cpu_peek_u8(
+        controller,
+        sequencer,
+        p0,
+        p1,
+        p2,
+        p3,
+        picture,
+        address,
+        page,
+    );
+    of_byte(answer)
+}
+
+// The eight pixels of an offset.
+#[no_mangle]
+pub extern "C" fn iddesmar_gc_serialize(
+    gc: ControllerRecord,
+    seq: SequencerRecord,
+    p0: &[u8],
+    p1: &[u8],
+    p2: &[u8],
+    p3: &[u8],
+    picture: &[u8],
+    offset: usize,
+) -> Shown
+    ensures { λ r. ⌜ r ≡ shownOf (cpuHosted gc seq (before p0 p1 p2 p3 picture) (part []) (serialize offset) .answer) ⌝ }
+{
+    if !known(gc, seq) {
+        return unknown_shown();
+    }
+    let controller = to_controller(gc);
+    let sequencer = to_sequencer(seq);
+    let mut number = 0u8;
+    let part = graphics_controller::serialize(
+        controller,
+        sequencer,
+        p0,
+        p1,
+        p2,
+        p3,
+        picture,
+        PlaneOffset(offset),
+        &mut number,
+    );
+    of_part(number, part)
+}

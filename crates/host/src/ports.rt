@@ -1,0 +1,195 @@
+// The controller's ports and fields. The two ports and the reset update the record where it stands; what only asks takes it by value.
+ghost use mathlib.Core.Path.{_≡_};
+ghost use Rattle.machine.specs.Answers.{one, two, outcome};
+ghost use Rattle.machine.specs.Graphics.{freshGc};
+ghost use Rattle.machine.specs.Calls.{gcReset, gcChain, gcChain4, gcMemoryMap, gcOddEven, gcShiftMode, gcReadAddress, gcReadData, gcWriteAddress, gcWriteData, gcMapAddress};
+ghost use Rattle.machine.specs.Step.{lifted, graphicsStep};
+ghost use Rattle.host.specs.Records.{controllerOf, recordOf};
+ghost use Rattle.host.specs.Hosted.{answerSaid, mappedSaid as mappedAnswerSaid, graphicsHosted};
+use crate::answer::Answer;
+use crate::answer::ControllerAnswer;
+use crate::answer::Mapped;
+use crate::answer::done;
+use crate::answer::of_byte;
+use crate::answer::of_done;
+use crate::answer::of_flag;
+use crate::answer::of_map;
+use crate::answer::of_mapped;
+use crate::answer::of_odd_even;
+use crate::answer::of_shift;
+use crate::answer::unknown;
+use crate::record::ControllerRecord;
+use crate::record::known_controller;
+use crate::record::of_controller;
+use crate::record::to_controller;
+use machine::GraphicsController;
+
+// The start record.
+#[no_mangle]
+pub extern "C" fn iddesmar_gc_new() -> ControllerRecord
+    ensures { λ r. ⌜ r ≡ recordOf freshGc ⌝ }
+{
+    of_controller(GraphicsController::new())
+}
+
+fn reset_of(gc: ControllerRecord) -> ControllerAnswer
+    ensures { λ r. ⌜ outcome (answerSaid (r .answer)) (r .gc) ≡ lifted recordOf (graphicsStep (controllerOf gc) gcReset) ⌝ }
+{
+    let next = graphics_controller::reset(to_controller(gc));
+    ControllerAnswer {
+        answer: done(),
+        gc: of_controller(next),
+    }
+}
+
+fn address_of(gc: ControllerRecord, byte: u8) -> ControllerAnswer
+    ensures { λ r. ⌜ outcome (answerSaid (r .answer)) (r .gc) ≡ graphicsHosted gc (one 0) (gcWriteAddress byte) ⌝ }
+{
+    if !known_controller(gc) {
+        return ControllerAnswer {
+            answer: unknown(),
+            gc,
+        };
+    }
+    let r = graphics_controller::write_address(to_controller(gc), byte);
+    let answer = r.answer;
+    let next = r.gc;
+    ControllerAnswer {
+        answer: of_done(answer),
+        gc: of_controller(next),
+    }
+}
+
+fn data_of(gc: ControllerRecord, byte: u8) -> ControllerAnswer
+    ensures { λ r. ⌜ outcome (answerSaid (r .answer)) (r .gc) ≡ graphicsHosted gc (one 0) (gcWriteData byte) ⌝ }
+{
+    if !known_controller(gc) {
+        return ControllerAnswer {
+            answer: unknown(),
+            gc,
+        };
+    }
+    let r = graphics_controller::write_data(to_controller(gc), byte);
+    let answer = r.answer;
+    let next = r.gc;
+    ControllerAnswer {
+        answer: of_done(answer),
+        gc: of_controller(next),
+    }
+}
+
+// Any record is taken; latches and counters go back to the start too.
+#[no_mangle]
+pub extern "C" fn iddesmar_gc_reset(gc: &mut ControllerRecord) -> Answer
+    ensures { λ r. ⌜ outcome (answerSaid r) (now (gc .exit)) ≡ lifted recordOf (graphicsStep (controllerOf (now (gc .entry))) gcReset) ⌝ }
+{
+    let w = reset_of(*gc);
+    *gc = w.gc;
+    w.answer
+}
+
+#[no_mangle]
+pub extern "C" fn iddesmar_gc_write_address(gc: &mut ControllerRecord, byte: u8) -> Answer
+    ensures { λ r. ⌜ outcome (answerSaid r) (now (gc .exit)) ≡ graphicsHosted (now (gc .entry)) (one 0) (gcWriteAddress byte) ⌝ }
+{
+    let w = address_of(*gc, byte);
+    *gc = w.gc;
+    w.answer
+}
+
+#[no_mangle]
+pub extern "C" fn iddesmar_gc_write_data(gc: &mut ControllerRecord, byte: u8) -> Answer
+    ensures { λ r. ⌜ outcome (answerSaid r) (now (gc .exit)) ≡ graphicsHosted (now (gc .entry)) (one 0) (gcWriteData byte) ⌝ }
+{
+    let w = data_of(*gc, byte);
+    *gc = w.gc;
+    w.answer
+}
+
+#[no_mangle]
+pub extern "C" fn iddesmar_gc_read_address(gc: ControllerRecord) -> Answer
+    ensures { λ r. ⌜ outcome (answerSaid r) gc ≡ graphicsHosted gc (one 0) gcReadAddress ⌝ }
+{
+    if !known_controller(gc) {
+        return unknown();
+    }
+    of_byte(graphics_controller::read_address(to_controller(gc)))
+}
+
+#[no_mangle]
+pub extern "C" fn iddesmar_gc_read_data(gc: ControllerRecord) -> Answer
+    ensures { λ r. ⌜ outcome (answerSaid r) gc ≡ graphicsHosted gc (one 0) gcReadData ⌝ }
+{
+    if !known_controller(gc) {
+        return unknown();
+    }
+    of_byte(graphics_controller::read_data(to_controller(gc)))
+}
+
+#[no_mangle]
+pub extern "C" fn iddesmar_gc_chain(gc: ControllerRecord) -> Answer
+    ensures { λ r. ⌜ outcome (answerSaid r) gc ≡ graphicsHosted gc (one 0) gcChain ⌝ }
+{
+    if !known_controller(gc) {
+        return unknown();
+    }
+    of_flag(graphics_controller::chain(to_controller(gc)))
+}
+
+#[no_mangle]
+pub extern "C" fn iddesmar_gc_chain4(gc: ControllerRecord) -> Answer
+    ensures { λ r. ⌜ outcome (answerSaid r) gc ≡ graphicsHosted gc (one 0) gcChain4 ⌝ }
+{
+    if !known_controller(gc) {
+        return unknown();
+    }
+    of_flag(graphics_controller::chain4(to_controller(gc)))
+}
+
+#[no_mangle]
+pub extern "C" fn iddesmar_gc_memory_map(gc: ControllerRecord) -> Answer
+    ensures { λ r. ⌜ outcome (answerSaid r) gc ≡ graphicsHosted gc (one 0) gcMemoryMap ⌝ }
+{
+    if !known_controller(gc) {
+        return unknown();
+    }
+    of_map(graphics_controller::memory_map(to_controller(gc)))
+}
+
+#[no_mangle]
+pub extern "C" fn iddesmar_gc_odd_even(gc: ControllerRecord) -> Answer
+    ensures { λ r. ⌜ outcome (answerSaid r) gc ≡ graphicsHosted gc (one 0) gcOddEven ⌝ }
+{
+    if !known_controller(gc) {
+        return unknown();
+    }
+    of_odd_even(graphics_controller::odd_even(to_controller(gc)))
+}
+
+#[no_mangle]
+pub extern "C" fn iddesmar_gc_shift_mode(gc: ControllerRecord) -> Answer
+    ensures { λ r. ⌜ outcome (answerSaid r) gc ≡ graphicsHosted gc (one 0) gcShiftMode ⌝ }
+{
+    if !known_controller(gc) {
+        return unknown();
+    }
+    of_shift(graphics_controller::shift_mode(to_controller(gc)))
+}
+
+#[no_mangle]
+pub extern "C" fn iddesmar_gc_map_address(
+    gc: ControllerRecord,
+    address: usize,
+    page: bool,
+) -> Mapped
+    ensures { λ r. ⌜ outcome (mappedAnswerSaid r) gc ≡ graphicsHosted gc (two 0 0) (gcMapAddress address page) ⌝ }
+{
+    if !known_controller(gc) {
+        return Mapped {
+            offset: 0,
+            number: 6,
+            a0: false,
+        };
+    }
+    of_mapped(graphics_controller::map_address(to_controller(gc), address, page))
+}

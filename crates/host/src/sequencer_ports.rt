@@ -1,0 +1,151 @@
+// The sequencer's ports, its clock and the pending mark, on its record by value.
+ghost use mathlib.Core.Path.{_≡_};
+ghost use Rattle.machine.specs.Answers.{one, outcome};
+ghost use Rattle.machine.specs.Sequencer.{freshSeq};
+ghost use Rattle.machine.specs.Calls.{seqReset, seqClock, seqSetClockChangePending, seqPollClockChange, seqReadAddress, seqReadData, seqWriteAddress, seqWriteData};
+ghost use Rattle.machine.specs.Step.{lifted, sequencerStep};
+ghost use Rattle.host.specs.Records.{sequencerOf, sequencerRecordOf};
+ghost use Rattle.host.specs.Hosted.{answerSaid, clockSaid as clockAnswerSaid, sequencerHosted};
+use crate::answer::Answer;
+use crate::answer::Clock;
+use crate::answer::SequencerAnswer;
+use crate::answer::done;
+use crate::answer::of_byte;
+use crate::answer::of_clock;
+use crate::answer::of_done;
+use crate::answer::of_flag;
+use crate::answer::unknown;
+use crate::record::SequencerRecord;
+use crate::record::known_sequencer;
+use crate::record::of_sequencer;
+use crate::record::to_sequencer;
+use machine::Sequencer;
+
+// The start record.
+#[no_mangle]
+pub extern "C" fn iddesmar_seq_new() -> SequencerRecord
+    ensures { λ r. ⌜ r ≡ sequencerRecordOf freshSeq ⌝ }
+{
+    of_sequencer(Sequencer::new())
+}
+
+// Any record is taken.
+#[no_mangle]
+pub extern "C" fn iddesmar_seq_reset(seq: SequencerRecord) -> SequencerAnswer
+    ensures { λ r. ⌜ outcome (answerSaid (r .answer)) (r .seq) ≡ lifted sequencerRecordOf (sequencerStep (sequencerOf seq) seqReset) ⌝ }
+{
+    let next = sequencer::reset(to_sequencer(seq));
+    SequencerAnswer {
+        answer: done(),
+        seq: of_sequencer(next),
+    }
+}
+
+#[no_mangle]
+pub extern "C" fn iddesmar_seq_clock(seq: SequencerRecord) -> Clock
+    ensures { λ r. ⌜ outcome (clockAnswerSaid r) seq ≡ sequencerHosted seq (one 0) seqClock ⌝ }
+{
+    if !known_sequencer(seq) {
+        return Clock {
+            clock: 0,
+            number: 6,
+        };
+    }
+    of_clock(sequencer::clock(to_sequencer(seq)))
+}
+
+#[no_mangle]
+pub extern "C" fn iddesmar_seq_set_clock_change_pending(seq: SequencerRecord) -> SequencerAnswer
+    ensures { λ r. ⌜ outcome (answerSaid (r .answer)) (r .seq) ≡ sequencerHosted seq (one 0) seqSetClockChangePending ⌝ }
+{
+    if !known_sequencer(seq) {
+        return SequencerAnswer {
+            answer: unknown(),
+            seq,
+        };
+    }
+    let r = sequencer::set_clock_change_pending(to_sequencer(seq));
+    let answer = r.answer;
+    let next = r.seq;
+    SequencerAnswer {
+        answer: of_done(answer),
+        seq: of_sequencer(next),
+    }
+}
+
+#[no_mangle]
+pub extern "C" fn iddesmar_seq_poll_clock_change(seq: SequencerRecord) -> SequencerAnswer
+    ensures { λ r. ⌜ outcome (answerSaid (r .answer)) (r .seq) ≡ sequencerHosted seq (one 0) seqPollClockChange ⌝ }
+{
+    if !known_sequencer(seq) {
+        return SequencerAnswer {
+            answer: unknown(),
+            seq,
+        };
+    }
+    let r = sequencer::poll_clock_change(to_sequencer(seq));
+    let answer = r.answer;
+    let next = r.seq;
+    SequencerAnswer {
+        answer: of_flag(answer),
+        seq: of_sequencer(next),
+    }
+}
+
+#[no_mangle]
+pub extern "C" fn iddesmar_seq_read_address(seq: SequencerRecord) -> Answer
+    ensures { λ r. ⌜ outcome (answerSaid r) seq ≡ sequencerHosted seq (one 0) seqReadAddress ⌝ }
+{
+    if !known_sequencer(seq) {
+        return unknown();
+    }
+    of_byte(sequencer::read_address(to_sequencer(seq)))
+}
+
+#[no_mangle]
+pub extern "C" fn iddesmar_seq_write_address(seq: SequencerRecord, byte: u8) -> SequencerAnswer
+    ensures { λ r. ⌜ outcome (answerSaid (r .answer)) (r .seq) ≡ sequencerHosted seq (one 0) (seqWriteAddress byte) ⌝ }
+{
+    if !known_sequencer(seq) {
+        return SequencerAnswer {
+            answer: unknown(),
+            seq,
+        };
+    }
+    let r = sequencer::write_address(to_sequencer(seq), byte);
+    let answer = r.answer;
+    let next = r.seq;
+    SequencerAnswer {
+        answer: of_done(answer),
+        seq: of_sequencer(next),
+    }
+}
+
+#[no_mangle]
+pub extern "C" fn iddesmar_seq_read_data(seq: SequencerRecord) -> Answer
+    ensures { λ r. ⌜ outcome (answerSaid r) seq ≡ sequencerHosted seq (one 0) seqReadData ⌝ }
+{
+    if !known_sequencer(seq) {
+        return unknown();
+    }
+    of_byte(sequencer::read_data(to_sequencer(seq)))
+}
+
+#[no_mangle]
+pub extern "C" fn iddesmar_seq_write_data(seq: SequencerRecord, byte: u8) -> SequencerAnswer
+    ensures { λ r. ⌜ outcome (answerSaid (r .answer)) (r .seq) ≡ sequencerHosted seq (one 0) (seqWriteData byte) ⌝ }
+{
+    if !known_sequencer(seq) {
+        return SequencerAnswer {
+            answer: unknown(),
+            seq,
+        };
+    }
+    let r = sequencer::write_data(to_sequencer(seq), byte);
+    let answer = r.answer;
+    let next = r.seq;
+    SequencerAnswer {
+        answer: of_done(answer),
+        seq: of_sequencer(next),
+    }
+}
