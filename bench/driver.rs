@@ -15,7 +15,7 @@ pub trait Machine {
     fn sum(&self) -> u64;
 }
 
-pub const ROWS: [&str; 8] = [
+pub const ROWS: [&str; 9] = [
     "loop",
     "mode 0 write",
     "mode 1 write",
@@ -24,6 +24,7 @@ pub const ROWS: [&str; 8] = [
     "selected-plane read",
     "compare read",
     "show",
+    "mixed: 4 port writes, 2 writes, a read, a show",
 ];
 
 /// Runs a row and gives a number that depends on all of it.
@@ -39,10 +40,20 @@ pub fn run<M: Machine>(machine: &mut M, row: usize, turns: usize) -> u64 {
             }
             5 | 6 => u64::from(machine.read(0xA0000 + offset)),
             7 => u64::from(machine.show(offset)),
+            8 => mixed(machine, turn, offset),
             _ => 0,
         };
     }
     black_box(sum) + machine.sum()
+}
+
+/// As a program draws: the planes and the mode chosen through the ports, a byte laid, another beside it, one read back, pixels shown.
+fn mixed<M: Machine>(machine: &mut M, turn: usize, offset: usize) -> u64 {
+    machine.set_seq(2, turn as u8 & 15);
+    machine.set_gc(5, [0, 1, 2, 8][turn & 3]);
+    machine.write(0xA0000 + offset, turn as u8);
+    machine.write(0xA0000 + (offset ^ 1), !(turn as u8));
+    u64::from(machine.read(0xA0000 + offset)) + u64::from(machine.show(offset))
 }
 
 /// Sequential, 64K window, Map Mask F, function `Xor`, rotate 3, Bit Mask 3C; something in the latches and in memory.
@@ -57,6 +68,6 @@ fn set<M: Machine>(machine: &mut M, row: usize) {
     machine.set_gc(4, 2);
     machine.write(0xA0000, 0xA5);
     machine.read(0xA0000);
-    machine.set_gc(5, [0, 0, 1, 2, 0, 0, 8, 0][row]);
+    machine.set_gc(5, [0, 0, 1, 2, 0, 0, 8, 0, 0][row]);
     machine.set_seq(4, if row == 4 { 12 } else { 4 });
 }

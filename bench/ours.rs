@@ -5,30 +5,23 @@ mod driver;
 use driver::Machine;
 
 #[repr(C)]
-#[derive(Clone, Copy, Default)]
-struct Controller {
-    counters: [u32; 6],
-    address: u8,
-    selected: u8,
-    registers: [u8; 9],
-    latches: [u8; 4],
-}
+#[derive(Clone, Copy)]
+struct Controller([u32; 10]);
 
 #[repr(C)]
-#[derive(Clone, Copy, Default)]
-struct Sequencer {
-    address: u8,
-    selected: u8,
-    registers: [u8; 5],
-    pending: bool,
-    divisor: u32,
-    clock: u32,
-}
+#[derive(Clone, Copy)]
+struct Sequencer([u32; 4]);
 
 #[repr(C)]
 struct Answer {
     number: u8,
     value: u8,
+}
+
+#[repr(C)]
+struct SequencerAnswer {
+    answer: Answer,
+    seq: Sequencer,
 }
 
 #[repr(C)]
@@ -40,6 +33,12 @@ struct Shown {
 type Part = *mut u8;
 
 extern "C" {
+    fn iddesmar_gc_new() -> Controller;
+    fn iddesmar_gc_write_address(gc: &mut Controller, byte: u8) -> Answer;
+    fn iddesmar_gc_write_data(gc: &mut Controller, byte: u8) -> Answer;
+    fn iddesmar_seq_new() -> Sequencer;
+    fn iddesmar_seq_write_address(seq: Sequencer, byte: u8) -> SequencerAnswer;
+    fn iddesmar_seq_write_data(seq: Sequencer, byte: u8) -> SequencerAnswer;
     fn iddesmar_gc_cpu_write_u8(gc: &mut Controller, seq: Sequencer, p0: Part, n0: usize, p1: Part, n1: usize, p2: Part, n2: usize, p3: Part, n3: usize, picture: Part, n: usize, address: usize, page: bool, byte: u8) -> Answer;
     fn iddesmar_gc_cpu_read_u8(gc: &mut Controller, seq: Sequencer, p0: *const u8, n0: usize, p1: *const u8, n1: usize, p2: *const u8, n2: usize, p3: *const u8, n3: usize, picture: *const u8, n: usize, address: usize, page: bool) -> Answer;
     fn iddesmar_gc_serialize(gc: Controller, seq: Sequencer, p0: *const u8, n0: usize, p1: *const u8, n1: usize, p2: *const u8, n2: usize, p3: *const u8, n3: usize, picture: *const u8, n: usize, offset: usize) -> Shown;
@@ -54,11 +53,17 @@ struct Ours {
 
 impl Machine for Ours {
     fn set_gc(&mut self, register: u8, byte: u8) {
-        self.gc.registers[register as usize] = byte;
+        unsafe {
+            iddesmar_gc_write_address(&mut self.gc, register);
+            iddesmar_gc_write_data(&mut self.gc, byte);
+        }
     }
 
     fn set_seq(&mut self, register: u8, byte: u8) {
-        self.seq.registers[register as usize] = byte;
+        unsafe {
+            self.seq = iddesmar_seq_write_address(self.seq, register).seq;
+            self.seq = iddesmar_seq_write_data(self.seq, byte).seq;
+        }
     }
 
     fn write(&mut self, address: usize, byte: u8) {
@@ -108,8 +113,8 @@ fn main() {
     let words: Vec<usize> = std::env::args().skip(1).map(|word| word.parse().expect("a number")).collect();
     let plane = || vec![0u8; 65536];
     let mut machine = Ours {
-        gc: Controller::default(),
-        seq: Sequencer { divisor: 1, clock: 9, ..Default::default() },
+        gc: unsafe { iddesmar_gc_new() },
+        seq: unsafe { iddesmar_seq_new() },
         planes: [plane(), plane(), plane(), plane()],
         picture: vec![0u8; 524288],
     };

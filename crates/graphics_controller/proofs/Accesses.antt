@@ -32,7 +32,7 @@ use Rattle.machine.specs.Calls.{refuse, fitsBoth, accessNumber, shows, showNumb
 use Rattle.machine.specs.Step.{device, lifted, cpuPerform, cpuStep}
 use Rattle.machine.proofs.Laws.{both, refuse-0, sound-shaped, AtOffset, answered-refused}
 use Rattle.graphics_controller.proofs.Held.{map-select-fits}
-use Rattle.graphics_controller.proofs.Windows.{left}
+use Rattle.data_path.proofs.Windows.{left}
 use Rattle.graphics_controller.specs.Reads.{readByte}
 
 -- ---- what an answer says of an address

@@ -1,6 +1,6 @@
 -- Refusal 6's test of the controller's registers: those of four bits tested together, and the map select.
 use Prim.Native.Nat.{ℕ, _≤_}
-use mathlib.Core.Path.{_≡_, sym, ap, _∙_}
+use mathlib.Core.Path.{_≡_, ap, _∙_}
 use mathlib.Core.Bool.{Bool, true, _&&_}
 use lib.Bits.{bitOr}
 use lib.Dec.{leb}

@@ -1,7 +1,5 @@
 pub mod Accesses
-pub mod Bytes
-pub mod Colour
+pub mod Anywhere
 pub mod Determined
 pub mod Held
 pub mod Planes
-pub mod Windows

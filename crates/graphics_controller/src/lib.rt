@@ -1,12 +1,8 @@
 // The graphics controller: its ports, the way from an address to a plane offset, the processor's accesses and the show.
 mod access;
 mod address;
-mod compare;
-mod count;
-mod data_path;
 pub mod inner;
 mod registers;
-mod select;
 mod show;
 mod visit;
 

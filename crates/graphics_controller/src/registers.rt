@@ -1,7 +1,7 @@
 // The controller's ports and the fields that are asked for: each judges the record, and then reads or writes its registers.
 ghost use mathlib.Core.Path.{_≡_};
 ghost use Rattle.machine.specs.Answers.{said, one, outcome, byteSaid, doneSaid, flagSaid, mapSaid, oddEvenSaid, shiftSaid};
-ghost use Rattle.machine.specs.Graphics.{gcOf, selects, withAddress, withData, dataOf, shiftMode};
+ghost use Rattle.machine.specs.Graphics.{gcOf, selects, withAddress, withData, dataOf};
 ghost use Rattle.machine.specs.Calls.{isChain4, gcReset, gcChain, gcChain4, gcMemoryMap, gcOddEven, gcShiftMode, gcReadAddress, gcReadData, gcWriteAddress, gcWriteData};
 ghost use Rattle.machine.specs.Step.{graphicsStep};
 use crate::inner;

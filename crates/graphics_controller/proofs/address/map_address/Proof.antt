@@ -1,5 +1,5 @@
 -- `map_address` answers as the machine, whatever the memory: by `mapped-anywhere`.
-use Rattle.graphics_controller.proofs.Windows.{mapped-anywhere}
+use Rattle.graphics_controller.proofs.Anywhere.{mapped-anywhere}
 use borrow.Author.Needs.{needs}
 use Rattle.graphics_controller.proofs.address.map_address.Statement.{statement}
 use Rattle.graphics_controller.proofs.address.map_address.Tie as tie

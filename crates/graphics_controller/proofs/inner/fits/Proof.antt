@@ -1,5 +1,4 @@
 -- `fits` is refusal 6's test: the registers of four bits together, and the map select, by `fits-together`.
-use mathlib.Core.Path.{_∙_}
 use borrow.Author.Tests.{le-leb, lt-leb}
 use Rattle.graphics_controller.proofs.Held.{fits-together}
 use Rattle.graphics_controller.proofs.inner.fits.Statement.{statement}

@@ -1,6 +1,6 @@
 -- `fits_both` is refusal 6's test of both records, one after the other.
 use borrow.Author.Tests.{not-true, not-false}
-use mathlib.Core.Path.{sym, ap, ap₂, _∙_}
+use mathlib.Core.Path.{sym, _∙_}
 use borrow.Author.Needs.{needs}
 use Rattle.graphics_controller.proofs.inner.fits_both.Statement.{statement}
 use Rattle.graphics_controller.proofs.inner.fits_both.Tie as tie
