@@ -6,13 +6,13 @@ use native.Mathlib.Omega.{arith}
 use mathlib.Core.Path.{_≡_, refl, sym, ap, _∙_}
 use lib.Arith.{digits-mod}
 use lib.Pow.{shr-lt, pow-lt, pow-pos, pow-add}
-use lib.Bits.{bitAnd, bitOr, bitXor, differ, and-step, or-step, xor-step, and-shr, or-shr, xor-shr, and-le-l, and-le-r, or-lt, xor-lt, or-add-and, and-mask, and-high, or-shifted-r}
+use lib.Bits.{bitAnd, bitOr, bitXor, differ, and-step, or-step, xor-step, and-shr, or-shr, xor-shr, and-le-l, and-le-r, or-lt, xor-lt, or-add-and, and-mask, and-high}
 use lib.Dec.{leb}
 use mathlib.Core.Bool.{Bool, true, false, _&&_}
 use borrow.Author.Tests.{leb-true, leb-false, le-leb, lt-leb}
 use Rattle.bits.specs.Bit.{bit, ofBits, byteOf}
-use Rattle.bits.proofs.Laws.{bit-lt, bit-zero, bit-suc, bit-shr, bit-of, of-lt, of-more}
-use Rattle.bits.proofs.Decide.{same4, agree4}
+use Rattle.bits.proofs.Laws.{bit-lt, bit-zero, bit-suc, bit-shr, bit-of}
+use Rattle.bits.proofs.Decide.{agree4}
 use mathlib.Core.List.{[], _∷_}
 use lib.ListN.{getD}
 
@@ -107,16 +107,6 @@ pub shr-and-one : (x k : ℕ) → bitAnd (x / 2 ^ k) 1 ≡ bit k x
 unfolding bit
 shr-and-one x k = and-mask (x / 2 ^ k) 1
 
--- bit s of each of four bytes, moved to its byte's number: `b0 | (b1 << 1) | (b2 << 2) | (b3 << 3)`
-pub four-bits : (w x y z s : ℕ)
-    → bitOr (bitOr (bitOr (bitAnd (w / 2 ^ s) 1) (bitAnd (x / 2 ^ s) 1 * 2 % 256)) (bitAnd (y / 2 ^ s) 1 * 4 % 256)) (bitAnd (z / 2 ^ s) 1 * 8 % 256)
-    ≡ ofBits 4 (λ p. bit s (getD (w ∷ x ∷ y ∷ z ∷ []) p 0))
-unfolding ofBits
-four-bits w x y z s = rw (shr-and-one w s, shr-and-one x s, shr-and-one y s, shr-and-one z s) (joined (bit s w) (bit s x) (bit s y) (bit s z) (bit-lt s w) (bit-lt s x) (bit-lt s y) (bit-lt s z))
-  where
-    joined : (a b c d : ℕ) → a < 2 → b < 2 → c < 2 → d < 2 → bitOr (bitOr (bitOr a (b * 2 % 256)) (c * 4 % 256)) (d * 8 % 256) ≡ a + 2 * (b + 2 * (c + 2 * (d + 2 * 0)))
-    joined = same4 (λ a b c d. bitOr (bitOr (bitOr a (b * 2 % 256)) (c * 4 % 256)) (d * 8 % 256)) (λ a b c d. a + 2 * (b + 2 * (c + 2 * (d + 2 * 0)))) tt
-
 -- bits s and s + 4 as a number below 4, and where `& 0x11` has them
 abbrev pair : ℕ → ℕ → ℕ
 pair s x = bit s x + 2 * bit (s + 4) x
@@ -173,15 +163,3 @@ module _ (x p : ℕ) (h : p < 8) where
       go zero l e = refl
       go (suc zero) l e = absurd (omega (arith, pow-pos p))
       go (suc (suc b)) l e = absurd (omega arith)
-
--- ---- a byte made bit by bit: `x |= 1 << i`, or not
-
-module _ (f : ℕ → ℕ) (h : (k : ℕ) → f k < 2) (i : ℕ) (l : i < 8) where
-  pub more-set : f i ≡ 1 → bitOr (ofBits i f) (1 * 2 ^ i % 256) ≡ ofBits (i + 1) f
-  more-set e =
-      ap (bitOr (ofBits i f)) (omega (arith, mod-eq-of-lt (pow-lt {i = i} {j = 8} l)))
-      ∙ or-shifted-r 1 i (ofBits i f) (of-lt i f h)
-      ∙ omega (arith, of-more i f, ap (λ (b : ℕ). b * 2 ^ i) e)
-
-  pub more-clear : f i ≡ 0 → ofBits i f ≡ ofBits (i + 1) f
-  more-clear e = omega (arith, of-more i f, ap (λ (b : ℕ). b * 2 ^ i) e)

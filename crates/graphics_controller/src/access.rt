@@ -66,7 +66,7 @@ pub fn cpu_read_u8(
 {
     let registers = gc.registers;
     let fits = inner::fits_both(registers, seq);
-    let shaped = vram::inner::shaped(p0, p1, p2, p3, picture);
+    let shaped = planes::inner::shaped(p0, p1, p2, p3, picture);
     let map = registers.memory_map();
     let chain = registers.chain_odd_even();
     match judge_address(fits, shaped, map, chain, p0.len(), address, page) {
@@ -109,7 +109,7 @@ pub fn cpu_peek_u8(
 {
     let registers = gc.registers;
     let fits = inner::fits_both(registers, seq);
-    let shaped = vram::inner::shaped(p0, p1, p2, p3, picture);
+    let shaped = planes::inner::shaped(p0, p1, p2, p3, picture);
     let map = registers.memory_map();
     let chain = registers.chain_odd_even();
     match judge_address(fits, shaped, map, chain, p0.len(), address, page) {
@@ -156,7 +156,7 @@ pub fn cpu_write_u8(
 {
     let registers = gc.registers;
     let fits = inner::fits_both(registers, seq);
-    let shaped = vram::inner::shaped(p0, p1, p2, p3, picture);
+    let shaped = planes::inner::shaped(p0, p1, p2, p3, picture);
     let map = registers.memory_map();
     let chain = registers.chain_odd_even();
     match judge_address(fits, shaped, map, chain, p0.len(), address, page) {

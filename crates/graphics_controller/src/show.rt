@@ -41,7 +41,7 @@ fn judge(
     if !inner::fits_both(registers, seq) {
         return DoneAnswer::Refused(Refusal::State);
     }
-    if !vram::inner::shaped(p0, p1, p2, p3, picture) {
+    if !planes::inner::shaped(p0, p1, p2, p3, picture) {
         return DoneAnswer::Refused(Refusal::Memory);
     }
     if !shows(registers.shift_mode()) {
@@ -70,7 +70,7 @@ pub fn serialize<'a, 'b, 'c, 'd, 'p, 'n>(
 {
     match judge(gc.registers, seq, p0, p1, p2, p3, picture, offset) {
         DoneAnswer::Refused(x) => {
-            *number = vram::inner::refusal_number(x);
+            *number = machine::inner::refusal_number(x);
             &picture[0..0]
         }
         DoneAnswer::Done => {

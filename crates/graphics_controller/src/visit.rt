@@ -49,7 +49,7 @@ fn visit_plane(
     ensures { λ _. ⌜ after p0 p1 p2 p3 picture ≡ pick (isOne (bit plane planes)) (laid at (λ q. eqb q plane) (λ q. latch bytes plane) (before p0 p1 p2 p3 picture)) (before p0 p1 p2 p3 picture) ⌝ }
 {
     if planes & (1 << plane) != 0 {
-        vram::inner::lay(p0, p1, p2, p3, picture, plane, at, bytes[plane]);
+        planes::inner::lay(p0, p1, p2, p3, picture, plane, at, bytes[plane]);
     }
 }
 
@@ -102,5 +102,5 @@ pub fn write_planes(
     let bytes = written(mode, registers, latches, byte);
     let place = sequencer::inner::stored_at(seq, at);
     visit(p0, p1, p2, p3, picture, planes, bytes, place);
-    vram::inner::remake(p0, p1, p2, p3, picture, place);
+    planes::inner::remake(p0, p1, p2, p3, picture, place);
 }

@@ -104,7 +104,7 @@ pub fn of_byte(answer: ByteAnswer) -> Answer
             value: byte,
         },
         ByteAnswer::Refused(x) => Answer {
-            number: vram::inner::refusal_number(x),
+            number: machine::inner::refusal_number(x),
             value: 0,
         },
     }
@@ -119,7 +119,7 @@ pub fn of_pixel(answer: ByteAnswer) -> Answer
             value: byte,
         },
         ByteAnswer::Refused(x) => Answer {
-            number: vram::inner::refusal_number(x),
+            number: machine::inner::refusal_number(x),
             value: 0,
         },
     }
@@ -131,7 +131,7 @@ pub fn of_store(answer: StoreAnswer) -> Answer
     match answer {
         StoreAnswer::Done => done(),
         StoreAnswer::Refused(x) => Answer {
-            number: vram::inner::refusal_number(x),
+            number: machine::inner::refusal_number(x),
             value: 0,
         },
     }
@@ -143,7 +143,7 @@ pub fn of_done(answer: DoneAnswer) -> Answer
     match answer {
         DoneAnswer::Done => done(),
         DoneAnswer::Refused(x) => Answer {
-            number: vram::inner::refusal_number(x),
+            number: machine::inner::refusal_number(x),
             value: 0,
         },
     }
@@ -158,7 +158,7 @@ pub fn of_flag(answer: FlagAnswer) -> Answer
             value: set as u8,
         },
         FlagAnswer::Refused(x) => Answer {
-            number: vram::inner::refusal_number(x),
+            number: machine::inner::refusal_number(x),
             value: 0,
         },
     }
@@ -171,7 +171,7 @@ pub fn of_clock(answer: ClockAnswer) -> Clock
         ClockAnswer::Done(clock) => Clock { clock, number: 0 },
         ClockAnswer::Refused(x) => Clock {
             clock: 0,
-            number: vram::inner::refusal_number(x),
+            number: machine::inner::refusal_number(x),
         },
     }
 }
@@ -196,7 +196,7 @@ pub fn of_map(answer: MapAnswer) -> Answer
             value: map_number(map),
         },
         MapAnswer::Refused(x) => Answer {
-            number: vram::inner::refusal_number(x),
+            number: machine::inner::refusal_number(x),
             value: 0,
         },
     }
@@ -220,7 +220,7 @@ pub fn of_odd_even(answer: OddEvenAnswer) -> Answer
             value: odd_even_number(mode),
         },
         OddEvenAnswer::Refused(x) => Answer {
-            number: vram::inner::refusal_number(x),
+            number: machine::inner::refusal_number(x),
             value: 0,
         },
     }
@@ -246,7 +246,7 @@ pub fn of_shift(answer: ShiftAnswer) -> Answer
             value: shift_number(mode),
         },
         ShiftAnswer::Refused(x) => Answer {
-            number: vram::inner::refusal_number(x),
+            number: machine::inner::refusal_number(x),
             value: 0,
         },
     }
@@ -263,7 +263,7 @@ pub fn of_mapped(answer: MappedAnswer) -> Mapped
         },
         MappedAnswer::Refused(x) => Mapped {
             offset: 0,
-            number: vram::inner::refusal_number(x),
+            number: machine::inner::refusal_number(x),
             a0: false,
         },
     }

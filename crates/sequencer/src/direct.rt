@@ -37,7 +37,7 @@ fn judge_plane(
     if !inner::fits(seq) {
         return DoneAnswer::Refused(Refusal::State);
     }
-    vram::inner::judge_plane(p0, p1, p2, p3, picture, plane, offset)
+    planes::inner::judge_plane(p0, p1, p2, p3, picture, plane, offset)
 }
 
 // How a read by plane takes its offset: as it stands, or where chain-four leads.
@@ -74,7 +74,7 @@ fn plane_read(
         DoneAnswer::Refused(x) => ByteAnswer::Refused(x),
         DoneAnswer::Done => {
             let at = read_at(seq, offset.0, kind);
-            ByteAnswer::Done(vram::inner::byte(p0, p1, p2, p3, picture, plane, at))
+            ByteAnswer::Done(planes::inner::byte(p0, p1, p2, p3, picture, plane, at))
         }
     }
 }
@@ -184,7 +184,7 @@ pub fn serialize_linear<'a, 'b, 'c, 'd, 'p, 'n>(
     ensures { λ r. ⌜ outcome (partSaid (now (number .exit)) (now r)) (before p0 p1 p2 p3 picture) ≡ directStep seq (before p0 p1 p2 p3 picture) (seqSerializeLinear (offset .0)) ⌝ }
 {
     if !inner::fits(seq) {
-        *number = vram::inner::refusal_number(Refusal::State);
+        *number = machine::inner::refusal_number(Refusal::State);
         return &picture[0..0];
     }
     vram::serialize_linear(p0, p1, p2, p3, picture, offset, number)
@@ -227,9 +227,9 @@ fn store_masked(
     let mask = inner::mask(seq, offset, a0);
     if mask & (1 << plane) != 0 {
         let at = inner::stored_at(seq, offset);
-        let old = vram::inner::byte(p0, p1, p2, p3, picture, plane, at);
+        let old = planes::inner::byte(p0, p1, p2, p3, picture, plane, at);
         let new = combined(kind, byte, old);
-        vram::inner::store(p0, p1, p2, p3, picture, plane, at, new);
+        planes::inner::store(p0, p1, p2, p3, picture, plane, at, new);
     }
 }
 

@@ -7,7 +7,7 @@ use machine::FlagAnswer;
 use machine::Sequencer;
 use machine::SequencerRegister;
 use machine::StoreAnswer;
-use vram::inner::refusal_number;
+use machine::inner::refusal_number;
 
 pub fn text(s: &[u8]) {
     io::write_all(STDOUT_FILENO, s);

@@ -1,5 +1,4 @@
 // The video memory of vram.rs, its calls in that file's order: four lent planes and a lent picture, all five handed to each call.
-pub mod inner;
 
 ghost use mathlib.Core.Path.{_≡_};
 ghost use Rattle.machine.specs.Memory.{before, after};
@@ -23,7 +22,7 @@ pub fn read_glyph(
 ) -> ByteAnswer
     ensures { λ r. ⌜ outcome (byteSaid r) (before p0 p1 p2 p3 picture) ≡ vramStep (before p0 p1 p2 p3 picture) (readGlyph (offset .0)) ⌝ }
 {
-    match inner::judge_offset(p0, p1, p2, p3, picture, offset) {
+    match planes::inner::judge_offset(p0, p1, p2, p3, picture, offset) {
         DoneAnswer::Refused(x) => ByteAnswer::Refused(x),
         DoneAnswer::Done => {
             let at = offset.0;
@@ -59,11 +58,11 @@ pub fn read_u8(
 ) -> ByteAnswer
     ensures { λ r. ⌜ outcome (byteSaid r) (before p0 p1 p2 p3 picture) ≡ vramStep (before p0 p1 p2 p3 picture) (readU8 plane (offset .0)) ⌝ }
 {
-    match inner::judge_plane(p0, p1, p2, p3, picture, plane, offset) {
+    match planes::inner::judge_plane(p0, p1, p2, p3, picture, plane, offset) {
         DoneAnswer::Refused(x) => ByteAnswer::Refused(x),
         DoneAnswer::Done => {
             let at = offset.0;
-            ByteAnswer::Done(inner::byte(p0, p1, p2, p3, picture, plane, at))
+            ByteAnswer::Done(planes::inner::byte(p0, p1, p2, p3, picture, plane, at))
         }
     }
 }
@@ -95,7 +94,7 @@ pub fn read_linear(
 ) -> ByteAnswer
     ensures { λ r. ⌜ outcome (pixelSaid r) (before p0 p1 p2 p3 picture) ≡ vramStep (before p0 p1 p2 p3 picture) (readLinear (place .0)) ⌝ }
 {
-    match inner::judge_place(p0, p1, p2, p3, picture, place) {
+    match planes::inner::judge_place(p0, p1, p2, p3, picture, place) {
         DoneAnswer::Refused(x) => ByteAnswer::Refused(x),
         DoneAnswer::Done => {
             let at = place.0;
@@ -116,9 +115,9 @@ pub fn serialize_linear<'a, 'b, 'c, 'd, 'p, 'n>(
 ) -> &'p [u8]
     ensures { λ r. ⌜ outcome (partSaid (now (number .exit)) (now r)) (before p0 p1 p2 p3 picture) ≡ vramStep (before p0 p1 p2 p3 picture) (serializeLinear (offset .0)) ⌝ }
 {
-    match inner::judge_shown(p0, p1, p2, p3, picture, offset) {
+    match planes::inner::judge_shown(p0, p1, p2, p3, picture, offset) {
         DoneAnswer::Refused(x) => {
-            *number = inner::refusal_number(x);
+            *number = machine::inner::refusal_number(x);
             &picture[0..0]
         }
         DoneAnswer::Done => {
@@ -142,11 +141,11 @@ pub fn deplane(
 ) -> DoneAnswer
     ensures { λ r. ⌜ outcome (doneSaid r) (after p0 p1 p2 p3 picture) ≡ vramStep (before p0 p1 p2 p3 picture) (remakes (offset .0)) ⌝ }
 {
-    match inner::judge_offset(p0, p1, p2, p3, picture, offset) {
+    match planes::inner::judge_offset(p0, p1, p2, p3, picture, offset) {
         DoneAnswer::Refused(x) => DoneAnswer::Refused(x),
         DoneAnswer::Done => {
             let at = offset.0;
-            inner::remake(p0, p1, p2, p3, picture, at);
+            planes::inner::remake(p0, p1, p2, p3, picture, at);
             DoneAnswer::Done
         }
     }
@@ -165,11 +164,11 @@ pub fn plane_set(
 ) -> StoreAnswer
     ensures { λ r. ⌜ outcome (storeSaid r) (after p0 p1 p2 p3 picture) ≡ vramStep (before p0 p1 p2 p3 picture) (planeSet plane (offset .0) byte) ⌝ }
 {
-    match inner::judge_plane(p0, p1, p2, p3, picture, plane, offset) {
+    match planes::inner::judge_plane(p0, p1, p2, p3, picture, plane, offset) {
         DoneAnswer::Refused(x) => StoreAnswer::Refused(x),
         DoneAnswer::Done => {
             let at = offset.0;
-            inner::store(p0, p1, p2, p3, picture, plane, at, byte);
+            planes::inner::store(p0, p1, p2, p3, picture, plane, at, byte);
             StoreAnswer::Done
         }
     }
@@ -188,12 +187,12 @@ pub fn plane_and(
 ) -> StoreAnswer
     ensures { λ r. ⌜ outcome (storeSaid r) (after p0 p1 p2 p3 picture) ≡ vramStep (before p0 p1 p2 p3 picture) (planeAnd plane (offset .0) byte) ⌝ }
 {
-    match inner::judge_plane(p0, p1, p2, p3, picture, plane, offset) {
+    match planes::inner::judge_plane(p0, p1, p2, p3, picture, plane, offset) {
         DoneAnswer::Refused(x) => StoreAnswer::Refused(x),
         DoneAnswer::Done => {
             let at = offset.0;
-            let old = inner::byte(p0, p1, p2, p3, picture, plane, at);
-            inner::store(p0, p1, p2, p3, picture, plane, at, old & byte);
+            let old = planes::inner::byte(p0, p1, p2, p3, picture, plane, at);
+            planes::inner::store(p0, p1, p2, p3, picture, plane, at, old & byte);
             StoreAnswer::Done
         }
     }
@@ -212,12 +211,12 @@ pub fn plane_or(
 ) -> StoreAnswer
     ensures { λ r. ⌜ outcome (storeSaid r) (after p0 p1 p2 p3 picture) ≡ vramStep (before p0 p1 p2 p3 picture) (planeOr plane (offset .0) byte) ⌝ }
 {
-    match inner::judge_plane(p0, p1, p2, p3, picture, plane, offset) {
+    match planes::inner::judge_plane(p0, p1, p2, p3, picture, plane, offset) {
         DoneAnswer::Refused(x) => StoreAnswer::Refused(x),
         DoneAnswer::Done => {
             let at = offset.0;
-            let old = inner::byte(p0, p1, p2, p3, picture, plane, at);
-            inner::store(p0, p1, p2, p3, picture, plane, at, old | byte);
+            let old = planes::inner::byte(p0, p1, p2, p3, picture, plane, at);
+            planes::inner::store(p0, p1, p2, p3, picture, plane, at, old | byte);
             StoreAnswer::Done
         }
     }

@@ -3,8 +3,8 @@ use mathlib.Core.Path.{sym, _∙_}
 use borrow.Author.Tests.{lt-ltb, le-ltb, le-leb, lt-leb, not-true, not-false}
 use borrow.Author.Needs.{needs}
 use Rattle.machine.specs.Calls.{planeNumber}
-use Rattle.vram.proofs.inner.judge_plane.Statement.{statement}
-use Rattle.vram.proofs.inner.judge_plane.Tie as tie
+use Rattle.planes.proofs.inner.judge_plane.Statement.{statement}
+use Rattle.planes.proofs.inner.judge_plane.Tie as tie
 
 shaped-requires : tie.Need-shaped-requires
 shaped-requires c κs = search needs

@@ -3,8 +3,8 @@ use native.Mathlib.Omega.{arith}
 use mathlib.Core.Path.{_≡_}
 use borrow.Author.Needs.{needs}
 use Rattle.machine.specs.Deeds.{laid}
-use Rattle.vram.proofs.inner.lay.Statement.{statement}
-use Rattle.vram.proofs.inner.lay.Tie as tie
+use Rattle.planes.proofs.inner.lay.Statement.{statement}
+use Rattle.planes.proofs.inner.lay.Tie as tie
 
 slice-write-p0 : tie.Need-slice-write-p0
 slice-write-p0 c = search needs

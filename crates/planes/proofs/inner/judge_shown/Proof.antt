@@ -1,8 +1,8 @@
 -- `judge_shown` answers the machine's `shownNumber`: `judge_at` with refusal 5.
 use borrow.Author.Needs.{needs}
 use Rattle.machine.specs.Calls.{shownNumber}
-use Rattle.vram.proofs.inner.judge_shown.Statement.{statement}
-use Rattle.vram.proofs.inner.judge_shown.Tie as tie
+use Rattle.planes.proofs.inner.judge_shown.Statement.{statement}
+use Rattle.planes.proofs.inner.judge_shown.Tie as tie
 
 judge-at-requires : tie.Need-judge-at-requires
 judge-at-requires c κs = search needs

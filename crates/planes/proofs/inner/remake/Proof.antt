@@ -3,9 +3,9 @@ use native.Mathlib.Omega.{arith}
 use lib.ListN.{length-set}
 use borrow.Author.Needs.{needs}
 use Rattle.machine.specs.Memory.{mem}
-use Rattle.vram.proofs.Laws.{remade-halves}
-use Rattle.vram.proofs.inner.remake.Statement.{statement}
-use Rattle.vram.proofs.inner.remake.Tie as tie
+use Rattle.planes.proofs.Pixels.{remade-halves}
+use Rattle.planes.proofs.inner.remake.Statement.{statement}
+use Rattle.planes.proofs.inner.remake.Tie as tie
 
 shared-slice-read-b0 : tie.Need-shared-slice-read-b0
 shared-slice-read-b0 c = search needs

@@ -1,8 +1,8 @@
 -- `judge_offset` answers the machine's `offsetNumber`: `judge_at` with refusal 3.
 use borrow.Author.Needs.{needs}
 use Rattle.machine.specs.Calls.{offsetNumber}
-use Rattle.vram.proofs.inner.judge_offset.Statement.{statement}
-use Rattle.vram.proofs.inner.judge_offset.Tie as tie
+use Rattle.planes.proofs.inner.judge_offset.Statement.{statement}
+use Rattle.planes.proofs.inner.judge_offset.Tie as tie
 
 judge-at-requires : tie.Need-judge-at-requires
 judge-at-requires c κs = search needs

@@ -1,8 +1,8 @@
 -- `two_pixels` makes the two numbers whose bit p is bit s, and bit s + 4, of byte p, by `two-halves`.
 use borrow.Author.Needs.{needs}
 use Rattle.bits.proofs.Bitwise.{two-halves}
-use Rattle.vram.proofs.inner.two_pixels.Statement.{statement}
-use Rattle.vram.proofs.inner.two_pixels.Tie as tie
+use Rattle.planes.proofs.inner.two_pixels.Statement.{statement}
+use Rattle.planes.proofs.inner.two_pixels.Tie as tie
 
 shr-bit0 : tie.Need-shr-bit0
 shr-bit0 c = search needs

@@ -2,9 +2,9 @@
 use native.Mathlib.Omega.{arith}
 use borrow.Author.Needs.{needs}
 use Rattle.machine.specs.Memory.{mem}
-use Rattle.vram.proofs.Laws.{no-bytes, too-many, other-1, other-2, other-3, sound-last}
-use Rattle.vram.proofs.inner.shaped.Statement.{statement}
-use Rattle.vram.proofs.inner.shaped.Tie as tie
+use Rattle.planes.proofs.Shapes.{no-bytes, too-many, other-1, other-2, other-3, sound-last}
+use Rattle.planes.proofs.inner.shaped.Statement.{statement}
+use Rattle.planes.proofs.inner.shaped.Tie as tie
 
 returns : tie.Need-returns
 returns c =

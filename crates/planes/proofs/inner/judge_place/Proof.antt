@@ -3,9 +3,9 @@ use mathlib.Core.Path.{sym, _∙_}
 use borrow.Author.Tests.{not-true, not-false}
 use borrow.Author.Needs.{needs}
 use Rattle.machine.specs.Calls.{placeNumber}
-use Rattle.vram.proofs.Laws.{place-in, place-out}
-use Rattle.vram.proofs.inner.judge_place.Statement.{statement}
-use Rattle.vram.proofs.inner.judge_place.Tie as tie
+use Rattle.planes.proofs.Shapes.{place-in, place-out}
+use Rattle.planes.proofs.inner.judge_place.Statement.{statement}
+use Rattle.planes.proofs.inner.judge_place.Tie as tie
 
 shaped-requires : tie.Need-shaped-requires
 shaped-requires c κs = search needs

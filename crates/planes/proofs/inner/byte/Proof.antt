@@ -2,8 +2,8 @@
 use native.Mathlib.Omega.{arith}
 use mathlib.Core.Path.{_≡_}
 use borrow.Author.Needs.{needs}
-use Rattle.vram.proofs.inner.byte.Statement.{statement}
-use Rattle.vram.proofs.inner.byte.Tie as tie
+use Rattle.planes.proofs.inner.byte.Statement.{statement}
+use Rattle.planes.proofs.inner.byte.Tie as tie
 
 shared-slice-read-result : tie.Need-shared-slice-read-result
 shared-slice-read-result c = search needs

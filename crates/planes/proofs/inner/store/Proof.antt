@@ -2,8 +2,8 @@
 use mathlib.Core.Path.{ap, _∙_}
 use borrow.Author.Needs.{needs}
 use Rattle.machine.specs.Deeds.{remade}
-use Rattle.vram.proofs.inner.store.Statement.{statement}
-use Rattle.vram.proofs.inner.store.Tie as tie
+use Rattle.planes.proofs.inner.store.Statement.{statement}
+use Rattle.planes.proofs.inner.store.Tie as tie
 
 lay-requires : tie.Need-lay-requires
 lay-requires c κs = search needs

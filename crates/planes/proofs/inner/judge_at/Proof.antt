@@ -2,8 +2,8 @@
 use mathlib.Core.Path.{sym, _∙_}
 use borrow.Author.Tests.{lt-ltb, le-ltb, not-true, not-false}
 use borrow.Author.Needs.{needs}
-use Rattle.vram.proofs.inner.judge_at.Statement.{statement}
-use Rattle.vram.proofs.inner.judge_at.Tie as tie
+use Rattle.planes.proofs.inner.judge_at.Statement.{statement}
+use Rattle.planes.proofs.inner.judge_at.Tie as tie
 
 shaped-requires : tie.Need-shaped-requires
 shaped-requires c κs = search needs

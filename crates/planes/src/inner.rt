@@ -1,7 +1,7 @@
-// What the crates above may call, and a host may not: the judges, and functions that ask something of their caller.
+// What the crates above may call, and a host may not: the judges of refusals 1, 3, 4 and 5, and functions that ask something of their caller.
 ghost use mathlib.Core.Path.{_≡_};
-ghost use mathlib.Core.List.{List, [], _∷_};
-ghost use Prim.Native.Nat.{ℕ, _+_, _*_, _<_, _≤_};
+ghost use mathlib.Core.List.{[], _∷_};
+ghost use Prim.Native.Nat.{_+_, _*_, _<_, _≤_};
 ghost use lib.Dec.{eqb, ltb};
 ghost use lib.ListN.{length, getD};
 ghost use Rattle.bits.specs.Bit.{bit, ofBits};
@@ -13,24 +13,6 @@ use machine::DoneAnswer;
 use machine::PixelPlace;
 use machine::PlaneOffset;
 use machine::Refusal;
-
-// A refusal's number in the table of refusals.
-pub fn refusal_number(refusal: Refusal) -> u8
-    ensures { λ r. ⌜ r ≡ refusalNumber refusal ⌝ }
-{
-    match refusal {
-        Refusal::Memory => 1,
-        Refusal::Window => 2,
-        Refusal::Offset => 3,
-        Refusal::Plane => 4,
-        Refusal::Place => 5,
-        Refusal::State => 6,
-        Refusal::Damaged => 7,
-        Refusal::Range => 8,
-        Refusal::Shift => 9,
-        Refusal::Room => 10,
-    }
-}
 
 // Not refusal 1: the plane lengths agree, n is from 1 to 65,536, and the picture is 8n long.
 pub fn shaped(p0: &[u8], p1: &[u8], p2: &[u8], p3: &[u8], picture: &[u8]) -> bool

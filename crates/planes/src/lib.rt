@@ -1,0 +1,2 @@
+// Four planes and their picture, as lent: judged, read, and stored with the pixels remade. Every function here is for the crates above.
+pub mod inner;
