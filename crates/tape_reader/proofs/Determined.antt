@@ -7,35 +7,18 @@ use denote.Ref.{now}
 use denote.Triple.Clauses.{AtExit}
 use borrow.Fn.Kinds.{Dens, endedOf}
 use Rattle.machine.specs.Memory.{Memory, lent}
-use Rattle.machine.specs.Answers.{Value, one, two, pixel, part, Said, Outcome, outcome}
+use Rattle.machine.specs.Answers.{Value, one, two, pixel, part, Outcome, outcome}
 use Rattle.machine.specs.Step.{State, state}
-use Rattle.tape_reader.specs.declared.number.Number.{Number}
-use Rattle.tape_reader.specs.declared.records.Record.{Record}
 use Rattle.tape_reader.specs.declared.told.Handed.{Handed}
 use Rattle.tape_reader.specs.declared.told.Handed.the-variants.{Byte, Pixels, Nothing}
-use Rattle.tape_reader.specs.declared.told.Told.{Told}
 use Rattle.tape_reader.specs.declared.calls.Performed.{Performed}
 use Rattle.tape_reader.specs.declared.whole.Ran.{Ran}
 use Rattle.tape_reader.specs.Told.{handedValue, toldSaid, handedOf}
 use Rattle.tape_reader.specs.Run.{Outcome as RunOutcome}
-use Rattle.tape_reader.proofs.number.read_number.Reads as read-number
-use Rattle.tape_reader.proofs.number.read_number.Kinds as read-number-kinds
-use Rattle.tape_reader.proofs.records.decode.Reads as decode
-use Rattle.tape_reader.proofs.records.decode.Kinds as decode-kinds
 use Rattle.tape_reader.proofs.calls.perform.Reads as perform
 use Rattle.tape_reader.proofs.calls.perform.Kinds as perform-kinds
 use Rattle.tape_reader.proofs.whole.run.Reads as run
 use Rattle.tape_reader.proofs.whole.run.Kinds as run-kinds
-
-module _ (κs : Lfts 1) (a : Dens κs read-number-kinds.ps) where
-  pub read-number-determined : (r r′ : Number) (e e′ : AtExit (endedOf 1 read-number-kinds.ps read-number-kinds.r) κs)
-      → read-number.Post κs a r e → read-number.Post κs a r′ e′ → r ≡ r′
-  read-number-determined r r′ e e′ p q = p ∙ sym q
-
-module _ (κs : Lfts 1) (a : Dens κs decode-kinds.ps) where
-  pub decode-determined : (r r′ : Record) (e e′ : AtExit (endedOf 1 decode-kinds.ps decode-kinds.r) κs)
-      → decode.Post κs a r e → decode.Post κs a r′ e′ → r ≡ r′
-  decode-determined r r′ e e′ p q = p ∙ sym q
 
 -- ---- an answer is told by its number and value: the way back
 

@@ -12,8 +12,13 @@ use Rattle.machine.specs.DataPath.{dataBit, combined, masked, writtenBit, visit
 use Rattle.machine.specs.Deeds.{loaded, pixelOf, remade, storedByte, laid, stored, agrees, compared, latchesAfter, memoryAfter, valueOf as repliedValue}
 use Rattle.machine.specs.Calls.{seqNumberOf, seqValue, seqNext, gcNumberOf, gcValue, gcNext, accessNumber, showNumber, counted, readReply, writeDeed, cpuPlan}
 use Rattle.machine.specs.Step.{sequencerStep, graphicsStep, cpuStep, State, state, step}
-use Rattle.tape_reader.specs.Numbers.{onTop, lastGroup, groups, numberOf}
-use Rattle.tape_reader.specs.Records.{arguments, greatestOf, judged, argumentOf, commandOf, next, thirdOf, secondOf, firstOf, started, recordOf}
+use Rattle.tape_records.specs.declared.records.Command.the-variants.{Reset}
+use Rattle.tape_records.specs.declared.records.Fault.the-variants.{Range}
+use Rattle.tape_records.specs.declared.records.Operation.the-variants.{Was}
+use Rattle.tape_records.specs.declared.records.Record.{Record}
+use Rattle.tape_records.specs.declared.records.Record.the-variants.{Whole, Broken}
+use Rattle.tape_records.specs.Numbers.{onTop, lastGroup, groups, numberOf}
+use Rattle.tape_records.specs.Records.{arguments, greatestOf, judged, argumentOf, commandOf, next, thirdOf, secondOf, firstOf, started, recordOf}
 use Rattle.tape_reader.specs.Performs.{performed}
 use Rattle.tape_reader.specs.Text.{digitsOf, decimalOf, fieldOf, hexOf}
 use Rattle.tape_reader.specs.Lines.{nameOf, valueOf, lineOf}
@@ -49,3 +54,13 @@ document =
 pub document-01 : computedLines start tape ≡ document
 unfolding computedLines start tape document
 document-01 = refl
+
+-- the records of a tape, with every definition open
+unfoldable pub computedRecords : List ℕ → List Record
+unfolding onTop lastGroup groups numberOf arguments greatestOf judged argumentOf commandOf next thirdOf secondOf firstOf started recordOf more recordsAfter recordsOf
+computedRecords tape = recordsOf tape
+
+-- a broken record stops a tape that goes on: a reset, an operation of 9, and what could be another reset
+pub stopped : computedRecords (0 ∷ 9 ∷ 0 ∷ []) ≡ Whole Reset 1 ∷ Broken (Was 9) Range ∷ []
+unfolding computedRecords
+stopped = refl

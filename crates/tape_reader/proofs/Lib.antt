@@ -1,8 +1,3 @@
-pub mod Broken
-pub mod Reading
-pub mod Sizes
-pub mod Judging
-pub mod RoundTrips
 pub mod Texts
 pub mod Performing
 pub mod Lining

@@ -2,7 +2,7 @@
 use Prim.Native.Nat.{ℕ, zero, suc, _*_}
 use native.Mathlib.Omega.{arith}
 use mathlib.Core.Logic.{_⊎_, inl, inr}
-use mathlib.Core.Path.{_≡_, refl, ap, sym, _∙_}
+use mathlib.Core.Path.{_≡_, refl, ap, _∙_}
 use mathlib.Core.List.{List, [], _∷_}
 use lib.ListN.{length, take, drop, length-drop}
 use lib.Seq.{length-take-le}
@@ -14,7 +14,7 @@ use Rattle.machine.specs.Deeds.{memoryAfter, latchesAfter, valueOf}
 use Rattle.machine.specs.Calls.{SequencerCall, seqReset, GraphicsCall, gcReset, CpuCall, serialize, showNumber, cpuPlan}
 use Rattle.machine.specs.Step.{sequencerStep, graphicsStep, Device, device, cpuStep, state, sequencer, graphics, cpu, lifted, withSeq, withGc, withDevice, step}
 use Rattle.graphics_controller.proofs.Accesses.{show-accepted}
-use Rattle.tape_reader.specs.declared.records.Command.the-variants.{Reset}
+use Rattle.tape_records.specs.declared.records.Command.the-variants.{Reset}
 use Rattle.tape_reader.specs.declared.told.Handed.{Handed}
 use Rattle.tape_reader.specs.Told.{handedValue, handedOf}
 use Rattle.tape_reader.specs.Performs.{performed}

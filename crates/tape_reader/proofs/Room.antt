@@ -1,15 +1,15 @@
 -- A line has at most 84 bytes, and a tape no more records than bytes: what `run` judges is enough for `play`.
 use Prim.Native.Nat.{ℕ, zero, suc, _+_, _-_, _*_, _≤_}
 use native.Mathlib.Omega.{arith}
-use mathlib.Core.List.{List, [], _∷_, _++_, map}
+use mathlib.Core.List.{List, [], _∷_, _++_}
 use lib.ListN.{length, take, length-append, length-map, length-take}
 use Rattle.machine.specs.Answers.{Value, one, two, pixel, part, Said}
 use Rattle.machine.specs.Step.{State}
-use Rattle.tape_reader.specs.declared.records.Operation.{Operation}
-use Rattle.tape_reader.specs.declared.records.Operation.the-variants.{Unread, Was}
-use Rattle.tape_reader.specs.declared.records.Record.{Record}
-use Rattle.tape_reader.specs.declared.records.Record.the-variants.{Whole, Broken}
-use Rattle.tape_reader.specs.Records.{recordOf}
+use Rattle.tape_records.specs.declared.records.Operation.{Operation}
+use Rattle.tape_records.specs.declared.records.Operation.the-variants.{Unread, Was}
+use Rattle.tape_records.specs.declared.records.Record.{Record}
+use Rattle.tape_records.specs.declared.records.Record.the-variants.{Whole, Broken}
+use Rattle.tape_records.specs.Records.{recordOf}
 use Rattle.tape_reader.specs.Text.{fieldOf, hexOf}
 use Rattle.tape_reader.specs.Lines.{nameOf, valueOf, lineOf}
 use Rattle.tape_reader.specs.Run.{longest, more, recordsAfter, recordsOf, recordLine, left, linesOf}

@@ -1,28 +1,28 @@
 -- The records of a tape from a place on, and a run that has come to a record: what the loop of `play` keeps.
-use Prim.Native.Nat.{ℕ, zero, suc, _+_, _-_, _^_, _≤_, _<_}
+use Prim.Native.Nat.{ℕ, zero, suc, _+_, _^_, _≤_, _<_}
 use native.Mathlib.Nat.{add-zero, zero-add, add-assoc}
 use native.Mathlib.Numerals.{sub-one}
 use native.Mathlib.Omega.{arith}
 use mathlib.Core.Path.{_≡_, refl, ap, sym, _∙_}
-use mathlib.Core.List.{List, [], _∷_, _++_}
+use mathlib.Core.List.{List, [], _∷_}
 use lib.ListN.{length, drop, length-append, length-drop, drop-of-length-le}
 use lib.Seq.{sets, drop-drop}
 use Rattle.machine.specs.declared.answer.DoneAnswer.the-variants.{Done}
 use Rattle.machine.specs.Memory.{Memory}
 use Rattle.machine.specs.Answers.{Said, Outcome, outcome as answered}
 use Rattle.machine.specs.Step.{State}
-use Rattle.tape_reader.specs.declared.records.Command.{Command}
-use Rattle.tape_reader.specs.declared.records.Fault.{Fault}
-use Rattle.tape_reader.specs.declared.records.Operation.{Operation}
-use Rattle.tape_reader.specs.declared.records.Operation.the-variants.{Was}
-use Rattle.tape_reader.specs.declared.records.Record.{Record}
-use Rattle.tape_reader.specs.declared.records.Record.the-variants.{Whole, Broken}
-use Rattle.tape_reader.specs.Records.{recordOf}
+use Rattle.tape_records.specs.declared.records.Command.{Command}
+use Rattle.tape_records.specs.declared.records.Fault.{Fault}
+use Rattle.tape_records.specs.declared.records.Operation.{Operation}
+use Rattle.tape_records.specs.declared.records.Operation.the-variants.{Was}
+use Rattle.tape_records.specs.declared.records.Record.{Record}
+use Rattle.tape_records.specs.declared.records.Record.the-variants.{Whole, Broken}
+use Rattle.tape_records.specs.Records.{recordOf}
 use Rattle.tape_reader.specs.Performs.{performed}
 use Rattle.tape_reader.specs.Text.{Put}
 use Rattle.tape_reader.specs.Lines.{lineOf}
 use Rattle.tape_reader.specs.Run.{more, recordsAfter, recordsOf, operationNumber, faultSaid, recordLine, left, linesOf, ending, outcome, ranTo, playedOf}
-use Rattle.tape_reader.proofs.Sizes.{record-fits}
+use Rattle.tape_records.proofs.Sizes.{record-fits}
 use Rattle.tape_reader.proofs.Texts.{sets-append, put-length}
 
 -- ---- the records from a place on

@@ -1,5 +1,3 @@
-pub mod Numbers
-pub mod Records
 pub mod Told
 pub mod Text
 pub mod Performs

@@ -3,8 +3,8 @@ use Prim.Native.Nat.{ℕ}
 use mathlib.Core.List.{List, [], _∷_, _++_, map}
 use lib.ListN.{take}
 use Rattle.machine.specs.Answers.{Value, one, two, pixel, part, Said}
-use Rattle.tape_reader.specs.declared.records.Operation.{Operation}
-use Rattle.tape_reader.specs.declared.records.Operation.the-variants.{Unread, Was}
+use Rattle.tape_records.specs.declared.records.Operation.{Operation}
+use Rattle.tape_records.specs.declared.records.Operation.the-variants.{Unread, Was}
 use Rattle.tape_reader.specs.Text.{decimalOf, fieldOf, hexOf}
 
 unfoldable pub nameOf : Operation → List ℕ

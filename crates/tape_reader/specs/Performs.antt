@@ -2,8 +2,8 @@
 use Rattle.machine.specs.Answers.{Outcome}
 use Rattle.machine.specs.Calls.{seqReset, seqWriteAddress, seqWriteData, gcReset, gcWriteAddress, gcWriteData, cpuRead, cpuPeek, cpuWrite, serialize}
 use Rattle.machine.specs.Step.{State, sequencer, graphics, cpu, step}
-use Rattle.tape_reader.specs.declared.records.Command.{Command}
-use Rattle.tape_reader.specs.declared.records.Command.the-variants.{Reset, GcAddress, GcData, SeqAddress, SeqData, Read, Write, Peek, Show}
+use Rattle.tape_records.specs.declared.records.Command.{Command}
+use Rattle.tape_records.specs.declared.records.Command.the-variants.{Reset, GcAddress, GcData, SeqAddress, SeqData, Read, Write, Peek, Show}
 
 -- "0 reset both": the sequencer's reset, then the controller's
 unfoldable pub performed : State → Command → Outcome State

@@ -13,15 +13,15 @@ use Rattle.machine.specs.declared.sequencer.Sequencer.{Sequencer}
 use Rattle.machine.specs.Memory.{Memory}
 use Rattle.machine.specs.Answers.{refusalNumber, one, Said, said}
 use Rattle.machine.specs.Step.{State}
-use Rattle.tape_reader.specs.declared.records.Command.{Command}
-use Rattle.tape_reader.specs.declared.records.Command.the-variants.{Reset, GcAddress, GcData, SeqAddress, SeqData, Read, Write, Peek, Show}
-use Rattle.tape_reader.specs.declared.records.Fault.{Fault}
-use Rattle.tape_reader.specs.declared.records.Fault.the-variants.{Open, Damage, Range as OutOfRange}
-use Rattle.tape_reader.specs.declared.records.Operation.the-variants.{Was}
-use Rattle.tape_reader.specs.declared.records.Record.{Record}
-use Rattle.tape_reader.specs.declared.records.Record.the-variants.{Whole, Broken}
+use Rattle.tape_records.specs.declared.records.Command.{Command}
+use Rattle.tape_records.specs.declared.records.Command.the-variants.{Reset, GcAddress, GcData, SeqAddress, SeqData, Read, Write, Peek, Show}
+use Rattle.tape_records.specs.declared.records.Fault.{Fault}
+use Rattle.tape_records.specs.declared.records.Fault.the-variants.{Open, Damage, Range as OutOfRange}
+use Rattle.tape_records.specs.declared.records.Operation.the-variants.{Was}
+use Rattle.tape_records.specs.declared.records.Record.{Record}
+use Rattle.tape_records.specs.declared.records.Record.the-variants.{Whole, Broken}
 use Rattle.tape_reader.specs.declared.whole.Ran.{Ran}
-use Rattle.tape_reader.specs.Records.{recordOf}
+use Rattle.tape_records.specs.Records.{recordOf}
 use Rattle.tape_reader.specs.Performs.{performed}
 use Rattle.tape_reader.specs.Lines.{lineOf}
 

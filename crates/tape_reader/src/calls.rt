@@ -6,7 +6,6 @@ ghost use Rattle.machine.specs.Calls.{cpuRead, cpuPeek, cpuWrite, serialize};
 ghost use Rattle.machine.specs.Step.{state, cpu, step};
 ghost use Rattle.tape_reader.specs.Told.{toldSaid, handedOf};
 ghost use Rattle.tape_reader.specs.Performs.{performed};
-use crate::records::Command;
 use crate::told;
 use crate::told::Eight;
 use crate::told::Handed;
@@ -17,6 +16,7 @@ use machine::GraphicsDone;
 use machine::PlaneOffset;
 use machine::Sequencer;
 use machine::SequencerDone;
+use tape_records::Command;
 
 // What was answered, and both records as they are left.
 pub struct Performed {

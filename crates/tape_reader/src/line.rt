@@ -4,10 +4,10 @@ ghost use lib.ListN.{length};
 ghost use Rattle.tape_reader.specs.Told.{handedValue, toldSaid};
 ghost use Rattle.tape_reader.specs.Text.{Put};
 ghost use Rattle.tape_reader.specs.Lines.{nameOf, valueOf, lineOf};
-use crate::records::Operation;
 use crate::text;
 use crate::told::Handed;
 use crate::told::Told;
+use tape_records::Operation;
 
 // An operation's number, or '-' where it was not read, and the blank after it.
 fn name(operation: Operation, out: &mut [u8], at: usize) -> usize

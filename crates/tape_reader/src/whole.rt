@@ -8,17 +8,17 @@ ghost use Rattle.tape_reader.specs.Told.{toldSaid};
 ghost use Rattle.tape_reader.specs.Run.{operationNumber, faultSaid, recordsOf, linesOf, outcome, endedOf, playedOf, runOf};
 use crate::calls::perform;
 use crate::line::line;
-use crate::records::Command;
-use crate::records::Fault;
-use crate::records::Operation;
-use crate::records::Record;
-use crate::records::decode;
 use crate::told::Handed;
 use crate::told::Told;
 use machine::DoneAnswer;
 use machine::GraphicsController;
 use machine::Refusal;
 use machine::Sequencer;
+use tape_records::Command;
+use tape_records::Fault;
+use tape_records::Operation;
+use tape_records::Record;
+use tape_records::decode;
 
 // The bytes of the longest line.
 pub const LONGEST: usize = 84;

@@ -1,9 +1,9 @@
 -- `greatest` is the table of arguments: its tests are tried against the table at every operation and place.
 use borrow.Author.Needs.{needs}
 use borrow.Author.Tests.{eq-eqb, ne-eqb, le-leb, lt-leb}
-use Rattle.tape_reader.proofs.Judging.{greatest-so}
-use Rattle.tape_reader.proofs.records.greatest.Statement.{statement}
-use Rattle.tape_reader.proofs.records.greatest.Tie as tie
+use Rattle.tape_records.proofs.Judging.{greatest-so}
+use Rattle.tape_records.proofs.records.greatest.Statement.{statement}
+use Rattle.tape_records.proofs.records.greatest.Tie as tie
 
 returns : tie.Need-returns
 returns c =

@@ -1,11 +1,11 @@
 -- `decode` is the definition's record: from what its operation's number came to.
 use borrow.Author.Needs.{needs}
 use mathlib.Core.Path.{_∙_}
-use Rattle.tape_reader.specs.Records.{started}
-use Rattle.tape_reader.proofs.Judging.{started-so}
-use Rattle.tape_reader.proofs.Sizes.{number-fits}
-use Rattle.tape_reader.proofs.records.decode.Statement.{statement}
-use Rattle.tape_reader.proofs.records.decode.Tie as tie
+use Rattle.tape_records.specs.Records.{started}
+use Rattle.tape_records.proofs.Judging.{started-so}
+use Rattle.tape_records.proofs.Sizes.{number-fits}
+use Rattle.tape_records.proofs.records.decode.Statement.{statement}
+use Rattle.tape_records.proofs.records.decode.Tie as tie
 
 read-number-requires : tie.Need-read-number-requires
 read-number-requires c κs = search needs

@@ -9,12 +9,12 @@ use lib.Seq.{drop-drop}
 use borrow.Author.Tests.{eq-eqb, ne-eqb, le-leb}
 use Rattle.bits.specs.Bit.{pick}
 use Rattle.bits.proofs.Decide.{agree2}
-use Rattle.tape_reader.specs.declared.number.Number.{Number}
-use Rattle.tape_reader.specs.declared.records.Argument.{Argument}
-use Rattle.tape_reader.specs.declared.records.Record.{Record}
-use Rattle.tape_reader.specs.declared.records.Record.the-variants.{Whole}
-use Rattle.tape_reader.specs.Numbers.{limit32, numberOf}
-use Rattle.tape_reader.specs.Records.{arguments, greatestOf, judged, argumentOf, commandOf, next, thirdOf, secondOf, firstOf, started, recordOf}
+use Rattle.tape_records.specs.declared.number.Number.{Number}
+use Rattle.tape_records.specs.declared.records.Argument.{Argument}
+use Rattle.tape_records.specs.declared.records.Record.{Record}
+use Rattle.tape_records.specs.declared.records.Record.the-variants.{Whole}
+use Rattle.tape_records.specs.Numbers.{limit32, numberOf}
+use Rattle.tape_records.specs.Records.{arguments, greatestOf, judged, argumentOf, commandOf, next, thirdOf, secondOf, firstOf, started, recordOf}
 
 -- the table by tests, as the code has it
 abbrev byTests : ℕ → ℕ → ℕ

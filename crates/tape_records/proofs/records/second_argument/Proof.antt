@@ -2,11 +2,11 @@
 use borrow.Author.Needs.{needs}
 use mathlib.Core.Path.{_∙_}
 use native.Mathlib.Omega.{arith}
-use Rattle.tape_reader.specs.Records.{next}
-use Rattle.tape_reader.proofs.Judging.{second-so}
-use Rattle.tape_reader.proofs.Sizes.{argument-fits}
-use Rattle.tape_reader.proofs.records.second_argument.Statement.{statement}
-use Rattle.tape_reader.proofs.records.second_argument.Tie as tie
+use Rattle.tape_records.specs.Records.{next}
+use Rattle.tape_records.proofs.Judging.{second-so}
+use Rattle.tape_records.proofs.Sizes.{argument-fits}
+use Rattle.tape_records.proofs.records.second_argument.Statement.{statement}
+use Rattle.tape_records.proofs.records.second_argument.Tie as tie
 
 add-read-argument : tie.Need-add-read-argument
 add-read-argument c =

@@ -1,9 +1,9 @@
 -- `commanded` makes the operation's command: from the arm that was taken; a byte fits by the table.
 use native.Mathlib.Omega.{arith}
-use Rattle.tape_reader.specs.Records.{commandOf}
-use Rattle.tape_reader.proofs.Judging.{byte-first, byte-third, last-is}
-use Rattle.tape_reader.proofs.records.commanded.Statement.{statement}
-use Rattle.tape_reader.proofs.records.commanded.Tie as tie
+use Rattle.tape_records.specs.Records.{commandOf}
+use Rattle.tape_records.proofs.Judging.{byte-first, byte-third, last-is}
+use Rattle.tape_records.proofs.records.commanded.Statement.{statement}
+use Rattle.tape_records.proofs.records.commanded.Tie as tie
 
 cast-t8 : tie.Need-cast-t8
 cast-t8 c =

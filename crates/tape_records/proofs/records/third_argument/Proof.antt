@@ -3,13 +3,13 @@ use Prim.Native.Nat.{_+_}
 use borrow.Author.Needs.{needs}
 use mathlib.Core.Path.{_∙_, ap}
 use native.Mathlib.Omega.{arith}
-use Rattle.tape_reader.specs.Records.{next}
-use Rattle.tape_reader.specs.declared.records.Command.{Command}
-use Rattle.tape_reader.specs.declared.records.Record.the-variants.{Whole}
-use Rattle.tape_reader.proofs.Judging.{third-so}
-use Rattle.tape_reader.proofs.Sizes.{argument-fits}
-use Rattle.tape_reader.proofs.records.third_argument.Statement.{statement}
-use Rattle.tape_reader.proofs.records.third_argument.Tie as tie
+use Rattle.tape_records.specs.Records.{next}
+use Rattle.tape_records.specs.declared.records.Command.{Command}
+use Rattle.tape_records.specs.declared.records.Record.the-variants.{Whole}
+use Rattle.tape_records.proofs.Judging.{third-so}
+use Rattle.tape_records.proofs.Sizes.{argument-fits}
+use Rattle.tape_records.proofs.records.third_argument.Statement.{statement}
+use Rattle.tape_records.proofs.records.third_argument.Tie as tie
 
 add-read-argument : tie.Need-add-read-argument
 add-read-argument c =

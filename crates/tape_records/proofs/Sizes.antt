@@ -1,5 +1,5 @@
 -- A number and a record take at least one byte, and no more than there are; a good argument is in range.
-use Prim.Native.Nat.{ℕ, suc, _+_, _-_, _*_, _/_, _≤_, _<_}
+use Prim.Native.Nat.{ℕ, suc, _+_, _-_, _/_, _≤_, _<_}
 use native.Mathlib.Omega.{arith}
 use mathlib.Core.Path.{_≡_, refl, sym, subst, _∙_}
 use mathlib.Core.Bool.{Bool, true, false}
@@ -8,15 +8,15 @@ use lib.Dec.{eqb, ltb, leb}
 use lib.ListN.{length, drop, length-drop}
 use borrow.Author.Tests.{leb-true}
 use Rattle.bits.specs.Bit.{pick}
-use Rattle.tape_reader.specs.declared.number.Number.{Number}
-use Rattle.tape_reader.specs.declared.number.Number.the-variants.{Value, Ended, Damaged}
-use Rattle.tape_reader.specs.declared.records.Command.{Command}
-use Rattle.tape_reader.specs.declared.records.Argument.{Argument}
-use Rattle.tape_reader.specs.declared.records.Argument.the-variants.{Good, Bad}
-use Rattle.tape_reader.specs.declared.records.Record.{Record}
-use Rattle.tape_reader.specs.declared.records.Record.the-variants.{Whole, Broken}
-use Rattle.tape_reader.specs.Numbers.{limit32, onTop, lastGroup, groups, numberOf}
-use Rattle.tape_reader.specs.Records.{judged, argumentOf, next, thirdOf, secondOf, firstOf, started, recordOf}
+use Rattle.tape_records.specs.declared.number.Number.{Number}
+use Rattle.tape_records.specs.declared.number.Number.the-variants.{Value, Ended, Damaged}
+use Rattle.tape_records.specs.declared.records.Command.{Command}
+use Rattle.tape_records.specs.declared.records.Argument.{Argument}
+use Rattle.tape_records.specs.declared.records.Argument.the-variants.{Good, Bad}
+use Rattle.tape_records.specs.declared.records.Record.{Record}
+use Rattle.tape_records.specs.declared.records.Record.the-variants.{Whole, Broken}
+use Rattle.tape_records.specs.Numbers.{limit32, onTop, lastGroup, groups, numberOf}
+use Rattle.tape_records.specs.Records.{judged, argumentOf, next, thirdOf, secondOf, firstOf, started, recordOf}
 
 -- a property of both branches of a choice
 pub either : {A : Type 0} (P : A → Type 0) (t : Bool) {x y : A} → (t ≡ true → P x) → (t ≡ false → P y) → P (pick t x y)

@@ -1,10 +1,10 @@
 -- `read_argument` judges the number that `read_number` read, damage before range.
 use borrow.Author.Needs.{needs}
 use borrow.Author.Tests.{eq-eqb, le-leb, lt-leb}
-use Rattle.tape_reader.specs.Records.{judged, argumentOf}
-use Rattle.tape_reader.proofs.Judging.{judged-so}
-use Rattle.tape_reader.proofs.records.read_argument.Statement.{statement}
-use Rattle.tape_reader.proofs.records.read_argument.Tie as tie
+use Rattle.tape_records.specs.Records.{judged, argumentOf}
+use Rattle.tape_records.proofs.Judging.{judged-so}
+use Rattle.tape_records.proofs.records.read_argument.Statement.{statement}
+use Rattle.tape_records.proofs.records.read_argument.Tie as tie
 
 returns : tie.Need-returns
 unfolding argumentOf

@@ -3,11 +3,11 @@ use borrow.Author.Needs.{needs}
 use borrow.Author.Tests.{lt-leb}
 use mathlib.Core.Path.{_∙_}
 use native.Mathlib.Omega.{arith}
-use Rattle.tape_reader.specs.Records.{next, firstOf}
-use Rattle.tape_reader.proofs.Judging.{first-so}
-use Rattle.tape_reader.proofs.Sizes.{argument-fits}
-use Rattle.tape_reader.proofs.records.first_argument.Statement.{statement}
-use Rattle.tape_reader.proofs.records.first_argument.Tie as tie
+use Rattle.tape_records.specs.Records.{next, firstOf}
+use Rattle.tape_records.proofs.Judging.{first-so}
+use Rattle.tape_records.proofs.Sizes.{argument-fits}
+use Rattle.tape_records.proofs.records.first_argument.Statement.{statement}
+use Rattle.tape_records.proofs.records.first_argument.Tie as tie
 
 broken-requires : tie.Need-broken-requires
 broken-requires c κs = search needs

@@ -2,7 +2,7 @@
 ghost use mathlib.Core.Path.{_≡_};
 ghost use Prim.Native.Nat.{_+_, _≤_};
 ghost use lib.ListN.{length, drop};
-ghost use Rattle.tape_reader.specs.Records.{greatestOf, argumentOf, commandOf, thirdOf, secondOf, firstOf, recordOf};
+ghost use Rattle.tape_records.specs.Records.{greatestOf, argumentOf, commandOf, thirdOf, secondOf, firstOf, recordOf};
 use crate::number::Number;
 use crate::number::read_number;
 use machine::PlaneOffset;

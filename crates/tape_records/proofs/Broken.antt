@@ -1,0 +1,32 @@
+-- Records that are broken, one of each kind that document 01 names under 7 and 8, and the longest number that is none. By computation.
+use Prim.Native.Nat.{ℕ}
+use mathlib.Core.Path.{_≡_, refl}
+use mathlib.Core.List.{List, [], _∷_}
+use Rattle.tape_records.specs.declared.records.Command.the-variants.{Show}
+use Rattle.tape_records.specs.declared.records.Fault.the-variants.{Open, Damage, Range}
+use Rattle.tape_records.specs.declared.records.Operation.the-variants.{Unread, Was}
+use Rattle.tape_records.specs.declared.records.Record.{Record}
+use Rattle.tape_records.specs.declared.records.Record.the-variants.{Whole, Broken}
+use Rattle.tape_records.specs.Numbers.{onTop, lastGroup, groups, numberOf}
+use Rattle.tape_records.specs.Records.{arguments, greatestOf, judged, argumentOf, commandOf, next, thirdOf, secondOf, firstOf, started, recordOf}
+
+-- the record at the start of a tape, with every definition open
+unfoldable pub computedRecord : List ℕ → Record
+unfolding onTop lastGroup groups numberOf arguments greatestOf judged argumentOf commandOf next thirdOf secondOf firstOf started recordOf
+computedRecord tape = recordOf tape
+
+pub broken :
+    -- a fifth byte above 15
+    (computedRecord (128 ∷ 128 ∷ 128 ∷ 128 ∷ 16 ∷ 0 ∷ []) ≡ Broken Unread Damage)
+    -- a last byte 0 in a longer number
+    × (computedRecord (1 ∷ 129 ∷ 0 ∷ 0 ∷ []) ≡ Broken (Was 1) Damage)
+    -- the input ends inside a record
+    × (computedRecord (8 ∷ []) ≡ Broken (Was 8) Open)
+    -- an operation above 8, a byte above 255, a page above 1
+    × (computedRecord (9 ∷ 0 ∷ []) ≡ Broken (Was 9) Range)
+    × (computedRecord (2 ∷ 128 ∷ 2 ∷ 0 ∷ []) ≡ Broken (Was 2) Range)
+    × (computedRecord (5 ∷ 128 ∷ 128 ∷ 40 ∷ 2 ∷ 0 ∷ []) ≡ Broken (Was 5) Range)
+    -- 2^32 - 1 is a number
+    × (computedRecord (8 ∷ 255 ∷ 255 ∷ 255 ∷ 255 ∷ 15 ∷ []) ≡ Whole (Show (record { 0 = 4294967295 })) 6)
+unfolding computedRecord
+broken = (refl, refl, refl, refl, refl, refl, refl)
