@@ -23,9 +23,9 @@ use Rattle.host.specs.Records.{knownGc, knownSeq, known, controllerOf, r
 abbrev pub answerSaid : Answer → Said
 answerSaid a = said (a .number) (one (a .value))
 
--- what a call answers where a selected register is no register's number
-abbrev pub unknownAnswer : Answer
-unknownAnswer = record { number = 6; value = 0 }
+-- the answer of a number and a value
+abbrev pub answerOf : ℕ → ℕ → Answer
+answerOf n x = record { number = n; value = x }
 
 -- of `read_linear`: a pixel
 abbrev pub pixelAnswerSaid : Answer → Said

@@ -101,8 +101,8 @@ fn write_of(
         byte,
     );
     let answer = r.answer;
-    let next = r.gc;
-    let stats = next.stats;
+    let left = r.gc;
+    let stats = left.stats;
     StatsAnswer {
         answer: of_store(answer),
         stats: of_stats(stats),

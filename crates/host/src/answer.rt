@@ -1,8 +1,8 @@
 // Answers as numbers: 0 or a refusal's number, and the value beside it.
 ghost use mathlib.Core.Path.{_≡_};
 ghost use mathlib.Core.List.{[]};
-ghost use Rattle.machine.specs.Answers.{said, one, part as pixelsOf, byteSaid, pixelSaid, storeSaid, doneSaid, flagSaid, clockSaid, mapSaid, mapNumber, oddEvenSaid, oddEvenNumber, shiftSaid, shiftNumber, mappedSaid};
-ghost use Rattle.host.specs.Hosted.{answerSaid, pixelAnswerSaid, clockSaid as clockAnswerSaid, mappedSaid as mappedAnswerSaid, unknownAnswer, shownOf};
+ghost use Rattle.machine.specs.Answers.{refusalNumber, said, part as pixelsOf, byteSaid, pixelSaid, storeSaid, doneSaid, flagSaid, clockSaid, mapSaid, mapNumber, oddEvenSaid, oddEvenNumber, shiftSaid, shiftNumber, mappedSaid};
+ghost use Rattle.host.specs.Hosted.{answerSaid, pixelAnswerSaid, clockSaid as clockAnswerSaid, mappedSaid as mappedAnswerSaid, answerOf, shownOf};
 use crate::record::ControllerRecord;
 use crate::record::SequencerRecord;
 use crate::record::StatsRecord;
@@ -15,6 +15,7 @@ use machine::MappedAnswer;
 use machine::MemoryMap;
 use machine::OddEvenAnswer;
 use machine::OddEvenModeComplement;
+use machine::Refusal;
 use machine::ShiftAnswer;
 use machine::ShiftMode;
 use machine::StoreAnswer;
@@ -67,23 +68,29 @@ pub struct StatsAnswer {
     pub stats: StatsRecord,
 }
 
-pub fn done() -> Answer
-    ensures { λ r. ⌜ answerSaid r ≡ said 0 (one 0) ⌝ }
+pub fn given(number: u8, value: u8) -> Answer
+    ensures { λ r. ⌜ r ≡ answerOf number value ⌝ }
 {
-    Answer {
-        number: 0,
-        value: 0,
-    }
+    Answer { number, value }
+}
+
+pub fn done() -> Answer
+    ensures { λ r. ⌜ r ≡ answerOf 0 0 ⌝ }
+{
+    given(0, 0)
 }
 
 // Refusal 6, for a number that selects no register.
 pub fn unknown() -> Answer
-    ensures { λ r. ⌜ r ≡ unknownAnswer ⌝ }
+    ensures { λ r. ⌜ r ≡ answerOf 6 0 ⌝ }
 {
-    Answer {
-        number: 6,
-        value: 0,
-    }
+    given(6, 0)
+}
+
+fn refused(refusal: Refusal) -> Answer
+    ensures { λ r. ⌜ r ≡ answerOf (refusalNumber refusal) 0 ⌝ }
+{
+    given(machine::inner::refusal_number(refusal), 0)
 }
 
 pub fn unknown_shown() -> Shown
@@ -99,14 +106,8 @@ pub fn of_byte(answer: ByteAnswer) -> Answer
     ensures { λ r. ⌜ answerSaid r ≡ byteSaid answer ⌝ }
 {
     match answer {
-        ByteAnswer::Done(byte) => Answer {
-            number: 0,
-            value: byte,
-        },
-        ByteAnswer::Refused(x) => Answer {
-            number: machine::inner::refusal_number(x),
-            value: 0,
-        },
+        ByteAnswer::Done(byte) => given(0, byte),
+        ByteAnswer::Refused(x) => refused(x),
     }
 }
 
@@ -114,14 +115,8 @@ pub fn of_pixel(answer: ByteAnswer) -> Answer
     ensures { λ r. ⌜ pixelAnswerSaid r ≡ pixelSaid answer ⌝ }
 {
     match answer {
-        ByteAnswer::Done(byte) => Answer {
-            number: 0,
-            value: byte,
-        },
-        ByteAnswer::Refused(x) => Answer {
-            number: machine::inner::refusal_number(x),
-            value: 0,
-        },
+        ByteAnswer::Done(byte) => given(0, byte),
+        ByteAnswer::Refused(x) => refused(x),
     }
 }
 
@@ -130,10 +125,7 @@ pub fn of_store(answer: StoreAnswer) -> Answer
 {
     match answer {
         StoreAnswer::Done => done(),
-        StoreAnswer::Refused(x) => Answer {
-            number: machine::inner::refusal_number(x),
-            value: 0,
-        },
+        StoreAnswer::Refused(x) => refused(x),
     }
 }
 
@@ -142,10 +134,7 @@ pub fn of_done(answer: DoneAnswer) -> Answer
 {
     match answer {
         DoneAnswer::Done => done(),
-        DoneAnswer::Refused(x) => Answer {
-            number: machine::inner::refusal_number(x),
-            value: 0,
-        },
+        DoneAnswer::Refused(x) => refused(x),
     }
 }
 
@@ -153,14 +142,8 @@ pub fn of_flag(answer: FlagAnswer) -> Answer
     ensures { λ r. ⌜ answerSaid r ≡ flagSaid answer ⌝ }
 {
     match answer {
-        FlagAnswer::Done(set) => Answer {
-            number: 0,
-            value: set as u8,
-        },
-        FlagAnswer::Refused(x) => Answer {
-            number: machine::inner::refusal_number(x),
-            value: 0,
-        },
+        FlagAnswer::Done(set) => given(0, set as u8),
+        FlagAnswer::Refused(x) => refused(x),
     }
 }
 
@@ -191,14 +174,8 @@ pub fn of_map(answer: MapAnswer) -> Answer
     ensures { λ r. ⌜ answerSaid r ≡ mapSaid answer ⌝ }
 {
     match answer {
-        MapAnswer::Done(map) => Answer {
-            number: 0,
-            value: map_number(map),
-        },
-        MapAnswer::Refused(x) => Answer {
-            number: machine::inner::refusal_number(x),
-            value: 0,
-        },
+        MapAnswer::Done(map) => given(0, map_number(map)),
+        MapAnswer::Refused(x) => refused(x),
     }
 }
 
@@ -215,14 +192,8 @@ pub fn of_odd_even(answer: OddEvenAnswer) -> Answer
     ensures { λ r. ⌜ answerSaid r ≡ oddEvenSaid answer ⌝ }
 {
     match answer {
-        OddEvenAnswer::Done(mode) => Answer {
-            number: 0,
-            value: odd_even_number(mode),
-        },
-        OddEvenAnswer::Refused(x) => Answer {
-            number: machine::inner::refusal_number(x),
-            value: 0,
-        },
+        OddEvenAnswer::Done(mode) => given(0, odd_even_number(mode)),
+        OddEvenAnswer::Refused(x) => refused(x),
     }
 }
 
@@ -241,14 +212,8 @@ pub fn of_shift(answer: ShiftAnswer) -> Answer
     ensures { λ r. ⌜ answerSaid r ≡ shiftSaid answer ⌝ }
 {
     match answer {
-        ShiftAnswer::Done(mode) => Answer {
-            number: 0,
-            value: shift_number(mode),
-        },
-        ShiftAnswer::Refused(x) => Answer {
-            number: machine::inner::refusal_number(x),
-            value: 0,
-        },
+        ShiftAnswer::Done(mode) => given(0, shift_number(mode)),
+        ShiftAnswer::Refused(x) => refused(x),
     }
 }
 

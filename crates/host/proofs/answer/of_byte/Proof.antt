@@ -1,4 +1,4 @@
--- `of_byte` tells number and value: from `refusal_number`.
+-- `of_byte` tells number and value: from `given` and `refused`.
 use borrow.Author.Needs.{needs}
 use Rattle.host.proofs.answer.of_byte.Statement.{statement}
 use Rattle.host.proofs.answer.of_byte.Tie as tie
@@ -6,21 +6,30 @@ use Rattle.host.proofs.answer.of_byte.Tie as tie
 enum-known-answer : tie.Need-enum-known-answer
 enum-known-answer c = search needs
 
+given-requires : tie.Need-given-requires
+given-requires c κs = search needs
+
 enum-known-answer-2 : tie.Need-enum-known-answer-2
 enum-known-answer-2 c = search needs
 
-refusal-number-requires : tie.Need-refusal-number-requires
-refusal-number-requires c κs = search needs
+refused-requires : tie.Need-refused-requires
+refused-requires c κs = search needs
 
 returns : tie.Need-returns
 returns c =
-    rw (c .before .answer .given .1)
+    rw (c .given .ensures, c .before .before .answer .given .1)
 
 returns-2 : tie.Need-returns-2
 returns-2 c =
-    rw (c .before .before .answer2 .given .1, c .refusal-number .ensures)
+    rw (c .refused .ensures, c .before .before .answer2 .given .1)
 
 pub of-byte-spec : {M : Type 1} → statement M
 of-byte-spec =
     tie.close
-    (tie.spec enum-known-answer enum-known-answer-2 refusal-number-requires returns returns-2)
+    (tie.spec
+    enum-known-answer
+    given-requires
+    enum-known-answer-2
+    refused-requires
+    returns
+    returns-2)

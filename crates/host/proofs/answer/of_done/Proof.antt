@@ -1,5 +1,4 @@
--- `of_done` tells number and value: from `refusal_number`.
-use mathlib.Core.Path.{_∙_}
+-- `of_done` tells the number: from `done` and `refused`.
 use borrow.Author.Needs.{needs}
 use Rattle.host.proofs.answer.of_done.Statement.{statement}
 use Rattle.host.proofs.answer.of_done.Tie as tie
@@ -13,18 +12,18 @@ done-requires c κs = search needs
 enum-known-answer : tie.Need-enum-known-answer
 enum-known-answer c = search needs
 
-refusal-number-requires : tie.Need-refusal-number-requires
-refusal-number-requires c κs = search needs
+refused-requires : tie.Need-refused-requires
+refused-requires c κs = search needs
 
 returns : tie.Need-returns
 returns c =
-    c .done .ensures ∙ rw (c .before .enum-told .given .1)
+    rw (c .done .ensures, c .before .enum-told .given .1)
 
 returns-2 : tie.Need-returns-2
 returns-2 c =
-    rw (c .before .before .answer .given .1, c .refusal-number .ensures)
+    rw (c .refused .ensures, c .before .before .answer .given .1)
 
 pub of-done-spec : {M : Type 1} → statement M
 of-done-spec =
     tie.close
-    (tie.spec enum-told done-requires enum-known-answer refusal-number-requires returns returns-2)
+    (tie.spec enum-told done-requires enum-known-answer refused-requires returns returns-2)

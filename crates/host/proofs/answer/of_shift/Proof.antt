@@ -1,4 +1,4 @@
--- `of_shift` tells number and value: from `shift_number` and `refusal_number`.
+-- `of_shift` tells number and value: from `shift_number`, `given` and `refused`.
 use borrow.Author.Needs.{needs}
 use Rattle.host.proofs.answer.of_shift.Statement.{statement}
 use Rattle.host.proofs.answer.of_shift.Tie as tie
@@ -9,19 +9,22 @@ enum-known-answer c = search needs
 shift-number-requires : tie.Need-shift-number-requires
 shift-number-requires c κs = search needs
 
+given-requires : tie.Need-given-requires
+given-requires c κs = search needs
+
 enum-known-answer-2 : tie.Need-enum-known-answer-2
 enum-known-answer-2 c = search needs
 
-refusal-number-requires : tie.Need-refusal-number-requires
-refusal-number-requires c κs = search needs
+refused-requires : tie.Need-refused-requires
+refused-requires c κs = search needs
 
 returns : tie.Need-returns
 returns c =
-    rw (c .before .before .answer .given .1, c .shift-number .ensures)
+    rw (c .given .ensures, c .before .before .before .answer .given .1, c .before .shift-number .ensures)
 
 returns-2 : tie.Need-returns-2
 returns-2 c =
-    rw (c .before .before .answer2 .given .1, c .refusal-number .ensures)
+    rw (c .refused .ensures, c .before .before .answer2 .given .1)
 
 pub of-shift-spec : {M : Type 1} → statement M
 of-shift-spec =
@@ -29,7 +32,8 @@ of-shift-spec =
     (tie.spec
     enum-known-answer
     shift-number-requires
+    given-requires
     enum-known-answer-2
-    refusal-number-requires
+    refused-requires
     returns
     returns-2)

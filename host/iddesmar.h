@@ -1,0 +1,202 @@
+/* Iddesmar for C: MartyPC's VGA video memory, proved. Link target/staticlib/libhost.a (x86-64 Linux); host/README.md has the rest.
+ *
+ * Every call takes any input and says what became of it by a number: 0 is done, anything else is a refusal, and then nothing has changed.
+ * Memory is lent for the length of a call: four planes of n bytes each, 1 to 65,536, and a picture of 8n bytes, one for each pixel. Each pointer
+ * must be good for as many bytes as are said beside it, and the five must overlap neither one another nor a record; the library reads and writes
+ * nothing else and keeps nothing. A `bool` must be 0 or 1. */
+#ifndef IDDESMAR_H
+#define IDDESMAR_H
+
+#if defined(__has_include)
+#if __has_include(<stdint.h>) && __has_include(<stddef.h>)
+#define IDDESMAR_HAS_HEADERS
+#endif
+#else
+#define IDDESMAR_HAS_HEADERS
+#endif
+#ifdef IDDESMAR_HAS_HEADERS
+#include <stddef.h>
+#include <stdint.h>
+#else
+typedef __UINT8_TYPE__ uint8_t;
+typedef __UINT32_TYPE__ uint32_t;
+typedef __SIZE_TYPE__ size_t;
+#define offsetof(type, field) __builtin_offsetof(type, field)
+#endif
+
+#ifdef __cplusplus
+extern "C" {
+#define IDDESMAR_BOOL bool
+#define IDDESMAR_ASSERT(fact) static_assert(fact, #fact)
+#else
+#define IDDESMAR_BOOL _Bool
+#define IDDESMAR_ASSERT(fact) _Static_assert(fact, #fact)
+#endif
+
+/* An answer's number. A refusal leaves records and memory as they were handed in, and its value is 0. */
+enum {
+    IDDESMAR_DONE = 0,
+    IDDESMAR_MEMORY = 1, /* plane lengths differ, n is 0 or above 65,536, or the picture isn't 8n long */
+    IDDESMAR_WINDOW = 2, /* the address is outside the current window, or the map is B0000 */
+    IDDESMAR_OFFSET = 3, /* a plane offset is n or more */
+    IDDESMAR_PLANE = 4,  /* a plane number is above 3 */
+    IDDESMAR_PLACE = 5,  /* a shown offset is n or more, or a pixel place is 8n or more */
+    IDDESMAR_STATE = 6,  /* a record holds a value that its registers cannot, or a selected register that there isn't */
+    IDDESMAR_SHIFT = 9   /* a show while the shift mode is Chain4 or CGACompatible */
+};
+
+/* The accepted reads and writes of the processor, by mode. */
+typedef struct iddesmar_stats {
+    uint32_t mode_0_writes;
+    uint32_t mode_1_writes;
+    uint32_t mode_2_writes;
+    uint32_t mode_3_writes;
+    uint32_t mode_0_reads;
+    uint32_t mode_1_reads;
+} iddesmar_stats;
+
+/* The graphics controller: counters, the address, the selected register's number (0 to 8), nine registers, four latches. */
+typedef struct iddesmar_gc {
+    iddesmar_stats stats;
+    uint8_t register_select_byte;
+    uint8_t register_selected;
+    uint8_t set_reset;
+    uint8_t enable_set_reset;
+    uint8_t color_compare;
+    uint8_t data_rotate;
+    uint8_t read_map_select;
+    uint8_t mode;
+    uint8_t miscellaneous;
+    uint8_t color_dont_care;
+    uint8_t bitmask;
+    uint8_t latches[4];
+} iddesmar_gc;
+
+/* The sequencer: the address, the selected register's number (0 to 5, 5 being none), five registers, the pending mark and the clock. */
+typedef struct iddesmar_seq {
+    uint8_t address_byte;
+    uint8_t register_selected;
+    uint8_t reset;
+    uint8_t clocking_mode;
+    uint8_t map_mask;
+    uint8_t character_map_select;
+    uint8_t memory_mode;
+    IDDESMAR_BOOL clock_change_pending;
+    uint32_t clock_divisor;
+    uint32_t char_clock;
+} iddesmar_seq;
+
+/* A byte, a pixel, a mark (0 or 1), an enum's place in its order; 0 where a call hands nothing back. */
+typedef struct iddesmar_answer {
+    uint8_t number;
+    uint8_t value;
+} iddesmar_answer;
+
+typedef struct iddesmar_clock {
+    uint32_t clock;
+    uint8_t number;
+} iddesmar_clock;
+
+typedef struct iddesmar_mapped {
+    size_t offset;
+    uint8_t number;
+    IDDESMAR_BOOL a0;
+} iddesmar_mapped;
+
+/* The eight pixels of an offset, in bits 0 to 3 of a byte each; eight zeros where refused. */
+typedef struct iddesmar_shown {
+    uint8_t number;
+    uint8_t pixels[8];
+} iddesmar_shown;
+
+/* An answer, and the sequencer's record as it is left. */
+typedef struct iddesmar_seq_answer {
+    iddesmar_answer answer;
+    iddesmar_seq seq;
+} iddesmar_seq_answer;
+
+IDDESMAR_ASSERT(sizeof(iddesmar_stats) == 24);
+IDDESMAR_ASSERT(sizeof(iddesmar_gc) == 40);
+IDDESMAR_ASSERT(offsetof(iddesmar_gc, register_select_byte) == 24);
+IDDESMAR_ASSERT(offsetof(iddesmar_gc, bitmask) == 34);
+IDDESMAR_ASSERT(offsetof(iddesmar_gc, latches) == 35);
+IDDESMAR_ASSERT(sizeof(iddesmar_seq) == 16);
+IDDESMAR_ASSERT(offsetof(iddesmar_seq, clock_change_pending) == 7);
+IDDESMAR_ASSERT(offsetof(iddesmar_seq, clock_divisor) == 8);
+IDDESMAR_ASSERT(offsetof(iddesmar_seq, char_clock) == 12);
+IDDESMAR_ASSERT(sizeof(iddesmar_answer) == 2);
+IDDESMAR_ASSERT(sizeof(iddesmar_clock) == 8 && offsetof(iddesmar_clock, number) == 4);
+IDDESMAR_ASSERT(sizeof(iddesmar_mapped) == 16 && offsetof(iddesmar_mapped, number) == 8 && offsetof(iddesmar_mapped, a0) == 9);
+IDDESMAR_ASSERT(sizeof(iddesmar_shown) == 9 && offsetof(iddesmar_shown, pixels) == 1);
+IDDESMAR_ASSERT(sizeof(iddesmar_seq_answer) == 20 && offsetof(iddesmar_seq_answer, seq) == 4);
+
+/* The five lent parts of a call, each with its length: to be read, and to be written. */
+#define IDDESMAR_SEEN \
+    const uint8_t *p0, size_t n0, const uint8_t *p1, size_t n1, const uint8_t *p2, size_t n2, const uint8_t *p3, size_t n3, const uint8_t *picture, size_t pixels
+#define IDDESMAR_LENT uint8_t *p0, size_t n0, uint8_t *p1, size_t n1, uint8_t *p2, size_t n2, uint8_t *p3, size_t n3, uint8_t *picture, size_t pixels
+
+/* For a host that keeps its memory in one place: the ten arguments of a call from a pointer to it. */
+typedef struct iddesmar_memory {
+    uint8_t *planes[4];
+    uint8_t *picture;
+    size_t n; /* bytes of a plane */
+} iddesmar_memory;
+#define IDDESMAR_ALL(m) (m)->planes[0], (m)->n, (m)->planes[1], (m)->n, (m)->planes[2], (m)->n, (m)->planes[3], (m)->n, (m)->picture, 8 * (m)->n
+
+/* ---- the graphics controller; a record behind a pointer is updated where it stands */
+
+iddesmar_gc iddesmar_gc_new(void);
+iddesmar_answer iddesmar_gc_reset(iddesmar_gc *gc);
+iddesmar_answer iddesmar_gc_write_address(iddesmar_gc *gc, uint8_t byte);
+iddesmar_answer iddesmar_gc_write_data(iddesmar_gc *gc, uint8_t byte);
+iddesmar_answer iddesmar_gc_cpu_read_u8(iddesmar_gc *gc, iddesmar_seq seq, IDDESMAR_SEEN, size_t address, IDDESMAR_BOOL page);
+iddesmar_answer iddesmar_gc_cpu_write_u8(iddesmar_gc *gc, iddesmar_seq seq, IDDESMAR_LENT, size_t address, IDDESMAR_BOOL page, uint8_t byte);
+iddesmar_answer iddesmar_gc_cpu_peek_u8(iddesmar_gc gc, iddesmar_seq seq, IDDESMAR_SEEN, size_t address, IDDESMAR_BOOL page);
+iddesmar_shown iddesmar_gc_serialize(iddesmar_gc gc, iddesmar_seq seq, IDDESMAR_SEEN, size_t offset);
+iddesmar_mapped iddesmar_gc_map_address(iddesmar_gc gc, size_t address, IDDESMAR_BOOL page);
+iddesmar_answer iddesmar_gc_read_address(iddesmar_gc gc);
+iddesmar_answer iddesmar_gc_read_data(iddesmar_gc gc);
+iddesmar_answer iddesmar_gc_chain(iddesmar_gc gc);
+iddesmar_answer iddesmar_gc_chain4(iddesmar_gc gc);
+iddesmar_answer iddesmar_gc_memory_map(iddesmar_gc gc); /* A0000_128k, A0000_64K, B0000_32K, B8000_32K */
+iddesmar_answer iddesmar_gc_odd_even(iddesmar_gc gc);   /* Sequential, OddEven */
+iddesmar_answer iddesmar_gc_shift_mode(iddesmar_gc gc); /* Standard, CGACompatible, Chain4, Unused */
+
+/* ---- the sequencer: its registers and clock, then its own calls on memory */
+
+iddesmar_seq iddesmar_seq_new(void);
+iddesmar_seq_answer iddesmar_seq_reset(iddesmar_seq seq);
+iddesmar_clock iddesmar_seq_clock(iddesmar_seq seq);
+iddesmar_seq_answer iddesmar_seq_set_clock_change_pending(iddesmar_seq seq);
+iddesmar_seq_answer iddesmar_seq_poll_clock_change(iddesmar_seq seq);
+iddesmar_answer iddesmar_seq_read_address(iddesmar_seq seq);
+iddesmar_answer iddesmar_seq_read_data(iddesmar_seq seq);
+iddesmar_seq_answer iddesmar_seq_write_address(iddesmar_seq seq, uint8_t byte);
+iddesmar_seq_answer iddesmar_seq_write_data(iddesmar_seq seq, uint8_t byte);
+iddesmar_answer iddesmar_seq_cpu_read_u8(iddesmar_seq seq, IDDESMAR_SEEN, size_t plane, size_t offset, IDDESMAR_BOOL a0);
+iddesmar_answer iddesmar_seq_peek_u8(iddesmar_seq seq, IDDESMAR_SEEN, size_t plane, size_t offset, IDDESMAR_BOOL a0);
+iddesmar_answer iddesmar_seq_gc_read_u8(iddesmar_seq seq, IDDESMAR_SEEN, size_t plane, size_t offset, IDDESMAR_BOOL a0);
+iddesmar_answer iddesmar_seq_read_linear(iddesmar_seq seq, IDDESMAR_SEEN, size_t place);
+iddesmar_shown iddesmar_seq_serialize_linear(iddesmar_seq seq, IDDESMAR_SEEN, size_t offset);
+iddesmar_answer iddesmar_seq_plane_set(iddesmar_seq seq, IDDESMAR_LENT, size_t plane, size_t offset, IDDESMAR_BOOL a0, uint8_t byte);
+iddesmar_answer iddesmar_seq_plane_and(iddesmar_seq seq, IDDESMAR_LENT, size_t plane, size_t offset, IDDESMAR_BOOL a0, uint8_t byte);
+iddesmar_answer iddesmar_seq_plane_or(iddesmar_seq seq, IDDESMAR_LENT, size_t plane, size_t offset, IDDESMAR_BOOL a0, uint8_t byte);
+
+/* ---- memory alone */
+
+iddesmar_answer iddesmar_vram_read_u8(IDDESMAR_SEEN, size_t plane, size_t offset);
+iddesmar_answer iddesmar_vram_peek_u8(IDDESMAR_SEEN, size_t plane, size_t offset);
+iddesmar_answer iddesmar_vram_read_glyph(IDDESMAR_SEEN, size_t offset);
+iddesmar_answer iddesmar_vram_read_linear(IDDESMAR_SEEN, size_t place);
+iddesmar_shown iddesmar_vram_serialize_linear(IDDESMAR_SEEN, size_t offset);
+iddesmar_answer iddesmar_vram_write_u8(IDDESMAR_LENT, size_t plane, size_t offset, uint8_t byte);
+iddesmar_answer iddesmar_vram_plane_set(IDDESMAR_LENT, size_t plane, size_t offset, uint8_t byte);
+iddesmar_answer iddesmar_vram_plane_and(IDDESMAR_LENT, size_t plane, size_t offset, uint8_t byte);
+iddesmar_answer iddesmar_vram_plane_or(IDDESMAR_LENT, size_t plane, size_t offset, uint8_t byte);
+iddesmar_answer iddesmar_vram_deplane(const uint8_t *p0, size_t n0, const uint8_t *p1, size_t n1, const uint8_t *p2, size_t n2, const uint8_t *p3, size_t n3,
+                                      uint8_t *picture, size_t pixels, size_t offset);
+
+#ifdef __cplusplus
+}
+#endif
+#endif

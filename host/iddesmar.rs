@@ -1,0 +1,573 @@
+//! Iddesmar for Rust: MartyPC's VGA video memory, proved, behind a safe face with MartyPC's own names. `mod iddesmar;` and link
+//! target/staticlib/libhost.a (x86-64 Linux): `rustc -L target/staticlib ..`. host/README.md has the rest.
+//!
+//! Every call takes any input; what it refuses is an `Err` with the reason, and then nothing has changed. The library is handed slices that Rust
+//! itself has borrowed, each with its own length, so no call can reach outside them.
+
+use std::mem::{offset_of, size_of};
+
+/// Why a call was refused, by document 01's numbers.
+#[derive(Clone, Copy, Debug, PartialEq, Eq)]
+#[repr(u8)]
+pub enum Refusal {
+    /// plane lengths differ, n is 0 or above 65,536, or the picture isn't 8n long
+    Memory = 1,
+    /// the address is outside the current window, or the map is B0000
+    Window = 2,
+    /// a plane offset is n or more
+    Offset = 3,
+    /// a plane number is above 3
+    Plane = 4,
+    /// a shown offset is n or more, or a pixel place is 8n or more
+    Place = 5,
+    /// a record holds a value that its registers cannot
+    State = 6,
+    /// a show while the shift mode is Chain4 or CGACompatible
+    Shift = 9,
+}
+
+impl Refusal {
+    pub fn number(self) -> u8 {
+        self as u8
+    }
+
+    fn of(number: u8) -> Self {
+        match number {
+            1 => Refusal::Memory,
+            2 => Refusal::Window,
+            3 => Refusal::Offset,
+            4 => Refusal::Plane,
+            5 => Refusal::Place,
+            6 => Refusal::State,
+            9 => Refusal::Shift,
+            _ => unreachable!("no call has this refusal"),
+        }
+    }
+}
+
+fn judged<T>(number: u8, value: T) -> Result<T, Refusal> {
+    match number {
+        0 => Ok(value),
+        _ => Err(Refusal::of(number)),
+    }
+}
+
+#[derive(Clone, Copy, Debug, PartialEq, Eq)]
+pub enum PageSelect {
+    LowPage,
+    HighPage,
+}
+
+#[derive(Clone, Copy, Debug, PartialEq, Eq)]
+pub enum MemoryMap {
+    A0000_128k,
+    A0000_64K,
+    B0000_32K,
+    B8000_32K,
+}
+
+#[derive(Clone, Copy, Debug, PartialEq, Eq)]
+pub enum OddEvenModeComplement {
+    Sequential,
+    OddEven,
+}
+
+#[derive(Clone, Copy, Debug, PartialEq, Eq)]
+pub enum ShiftMode {
+    Standard,
+    CGACompatible,
+    Chain4,
+    Unused,
+}
+
+// ---- what crosses the boundary
+
+/// The accepted reads and writes of the processor, by mode.
+#[derive(Clone, Copy, Debug, PartialEq, Eq)]
+#[repr(C)]
+pub struct GraphicsControllerStats {
+    pub mode_0_writes: u32,
+    pub mode_1_writes: u32,
+    pub mode_2_writes: u32,
+    pub mode_3_writes: u32,
+    pub mode_0_reads: u32,
+    pub mode_1_reads: u32,
+}
+
+/// The graphics controller's record; the selected register by its number.
+#[derive(Clone, Copy, Debug, PartialEq, Eq)]
+#[repr(C)]
+pub struct ControllerRecord {
+    pub stats: GraphicsControllerStats,
+    pub register_select_byte: u8,
+    pub register_selected: u8,
+    pub set_reset: u8,
+    pub enable_set_reset: u8,
+    pub color_compare: u8,
+    pub data_rotate: u8,
+    pub read_map_select: u8,
+    pub mode: u8,
+    pub miscellaneous: u8,
+    pub color_dont_care: u8,
+    pub bitmask: u8,
+    pub latches: [u8; 4],
+}
+
+/// The sequencer's record; the selected register by its number, 5 being none.
+#[derive(Clone, Copy, Debug, PartialEq, Eq)]
+#[repr(C)]
+pub struct SequencerRecord {
+    pub address_byte: u8,
+    pub register_selected: u8,
+    pub reset: u8,
+    pub clocking_mode: u8,
+    pub map_mask: u8,
+    pub character_map_select: u8,
+    pub memory_mode: u8,
+    pub clock_change_pending: bool,
+    pub clock_divisor: u32,
+    pub char_clock: u32,
+}
+
+#[derive(Clone, Copy)]
+#[repr(C)]
+struct Answer {
+    number: u8,
+    value: u8,
+}
+
+impl Answer {
+    fn byte(self) -> Result<u8, Refusal> {
+        judged(self.number, self.value)
+    }
+
+    fn done(self) -> Result<(), Refusal> {
+        judged(self.number, ())
+    }
+
+    fn flag(self) -> Result<bool, Refusal> {
+        judged(self.number, self.value != 0)
+    }
+
+    /// The place of an enum's value in its order.
+    fn chosen<T: Copy>(self, values: &[T]) -> Result<T, Refusal> {
+        judged(self.number, values[self.value as usize])
+    }
+}
+
+#[repr(C)]
+struct Clock {
+    clock: u32,
+    number: u8,
+}
+
+#[repr(C)]
+struct Mapped {
+    offset: usize,
+    number: u8,
+    a0: bool,
+}
+
+#[repr(C)]
+struct Shown {
+    number: u8,
+    pixels: [u8; 8],
+}
+
+#[repr(C)]
+struct SequencerAnswer {
+    answer: Answer,
+    seq: SequencerRecord,
+}
+
+const _: () = {
+    assert!(size_of::<GraphicsControllerStats>() == 24);
+    assert!(size_of::<ControllerRecord>() == 40);
+    assert!(offset_of!(ControllerRecord, register_select_byte) == 24);
+    assert!(offset_of!(ControllerRecord, bitmask) == 34);
+    assert!(offset_of!(ControllerRecord, latches) == 35);
+    assert!(size_of::<SequencerRecord>() == 16);
+    assert!(offset_of!(SequencerRecord, clock_change_pending) == 7);
+    assert!(offset_of!(SequencerRecord, clock_divisor) == 8);
+    assert!(offset_of!(SequencerRecord, char_clock) == 12);
+    assert!(size_of::<Answer>() == 2);
+    assert!(size_of::<Clock>() == 8 && offset_of!(Clock, number) == 4);
+    assert!(size_of::<Mapped>() == 16 && offset_of!(Mapped, number) == 8 && offset_of!(Mapped, a0) == 9);
+    assert!(size_of::<Shown>() == 9 && offset_of!(Shown, pixels) == 1);
+    assert!(size_of::<SequencerAnswer>() == 20 && offset_of!(SequencerAnswer, seq) == 4);
+};
+
+/// Declares calls: what comes before the five lent parts, the kind of pointer to them, what comes after. Each part has its length beside it.
+macro_rules! calls {
+    ($(fn $name:ident($($first:ty),*; $p:ty, $q:ty; $($last:ty),*) -> $answer:ty;)*) => {
+        #[link(name = "host", kind = "static")]
+        extern "C" {
+            $(fn $name($(_: $first,)* _: $p, _: usize, _: $p, _: usize, _: $p, _: usize, _: $p, _: usize, _: $q, _: usize, $(_: $last),*) -> $answer;)*
+        }
+    };
+}
+
+type Seen = *const u8;
+type Lent = *mut u8;
+
+calls! {
+    fn iddesmar_gc_cpu_read_u8(&mut ControllerRecord, SequencerRecord; Seen, Seen; usize, bool) -> Answer;
+    fn iddesmar_gc_cpu_write_u8(&mut ControllerRecord, SequencerRecord; Lent, Lent; usize, bool, u8) -> Answer;
+    fn iddesmar_gc_cpu_peek_u8(ControllerRecord, SequencerRecord; Seen, Seen; usize, bool) -> Answer;
+    fn iddesmar_gc_serialize(ControllerRecord, SequencerRecord; Seen, Seen; usize) -> Shown;
+    fn iddesmar_seq_cpu_read_u8(SequencerRecord; Seen, Seen; usize, usize, bool) -> Answer;
+    fn iddesmar_seq_peek_u8(SequencerRecord; Seen, Seen; usize, usize, bool) -> Answer;
+    fn iddesmar_seq_gc_read_u8(SequencerRecord; Seen, Seen; usize, usize, bool) -> Answer;
+    fn iddesmar_seq_read_linear(SequencerRecord; Seen, Seen; usize) -> Answer;
+    fn iddesmar_seq_serialize_linear(SequencerRecord; Seen, Seen; usize) -> Shown;
+    fn iddesmar_seq_plane_set(SequencerRecord; Lent, Lent; usize, usize, bool, u8) -> Answer;
+    fn iddesmar_seq_plane_and(SequencerRecord; Lent, Lent; usize, usize, bool, u8) -> Answer;
+    fn iddesmar_seq_plane_or(SequencerRecord; Lent, Lent; usize, usize, bool, u8) -> Answer;
+    fn iddesmar_vram_read_u8(; Seen, Seen; usize, usize) -> Answer;
+    fn iddesmar_vram_peek_u8(; Seen, Seen; usize, usize) -> Answer;
+    fn iddesmar_vram_read_glyph(; Seen, Seen; usize) -> Answer;
+    fn iddesmar_vram_read_linear(; Seen, Seen; usize) -> Answer;
+    fn iddesmar_vram_serialize_linear(; Seen, Seen; usize) -> Shown;
+    fn iddesmar_vram_write_u8(; Lent, Lent; usize, usize, u8) -> Answer;
+    fn iddesmar_vram_plane_set(; Lent, Lent; usize, usize, u8) -> Answer;
+    fn iddesmar_vram_plane_and(; Lent, Lent; usize, usize, u8) -> Answer;
+    fn iddesmar_vram_plane_or(; Lent, Lent; usize, usize, u8) -> Answer;
+    fn iddesmar_vram_deplane(; Seen, Lent; usize) -> Answer;
+}
+
+extern "C" {
+    fn iddesmar_gc_new() -> ControllerRecord;
+    fn iddesmar_gc_reset(gc: &mut ControllerRecord) -> Answer;
+    fn iddesmar_gc_write_address(gc: &mut ControllerRecord, byte: u8) -> Answer;
+    fn iddesmar_gc_write_data(gc: &mut ControllerRecord, byte: u8) -> Answer;
+    fn iddesmar_gc_read_address(gc: ControllerRecord) -> Answer;
+    fn iddesmar_gc_read_data(gc: ControllerRecord) -> Answer;
+    fn iddesmar_gc_chain(gc: ControllerRecord) -> Answer;
+    fn iddesmar_gc_chain4(gc: ControllerRecord) -> Answer;
+    fn iddesmar_gc_memory_map(gc: ControllerRecord) -> Answer;
+    fn iddesmar_gc_odd_even(gc: ControllerRecord) -> Answer;
+    fn iddesmar_gc_shift_mode(gc: ControllerRecord) -> Answer;
+    fn iddesmar_gc_map_address(gc: ControllerRecord, address: usize, page: bool) -> Mapped;
+    fn iddesmar_seq_new() -> SequencerRecord;
+    fn iddesmar_seq_reset(seq: SequencerRecord) -> SequencerAnswer;
+    fn iddesmar_seq_clock(seq: SequencerRecord) -> Clock;
+    fn iddesmar_seq_set_clock_change_pending(seq: SequencerRecord) -> SequencerAnswer;
+    fn iddesmar_seq_poll_clock_change(seq: SequencerRecord) -> SequencerAnswer;
+    fn iddesmar_seq_read_address(seq: SequencerRecord) -> Answer;
+    fn iddesmar_seq_read_data(seq: SequencerRecord) -> Answer;
+    fn iddesmar_seq_write_address(seq: SequencerRecord, byte: u8) -> SequencerAnswer;
+    fn iddesmar_seq_write_data(seq: SequencerRecord, byte: u8) -> SequencerAnswer;
+}
+
+/// A call over five slices that are to be read: each goes over as a pointer and its own length.
+macro_rules! seen {
+    ($call:ident($($first:expr),*; $memory:expr; $($last:expr),*)) => {{
+        let [a, b, c, d, e] = $memory.parts();
+        // SAFETY: five live borrows, each with its own length; the library reads within them and keeps none.
+        unsafe { $call($($first,)* a.as_ptr(), a.len(), b.as_ptr(), b.len(), c.as_ptr(), c.len(), d.as_ptr(), d.len(), e.as_ptr(), e.len(), $($last),*) }
+    }};
+}
+
+/// The same over five slices that may be written.
+macro_rules! lent {
+    ($call:ident($($first:expr),*; $memory:expr; $($last:expr),*)) => {{
+        let [a, b, c, d, e] = $memory.parts_mut();
+        // SAFETY: five live borrows that no other has, each with its own length; the library stays within them and keeps none.
+        unsafe { $call($($first,)* a.as_mut_ptr(), a.len(), b.as_mut_ptr(), b.len(), c.as_mut_ptr(), c.len(), d.as_mut_ptr(), d.len(), e.as_mut_ptr(), e.len(), $($last),*) }
+    }};
+}
+
+/// A call on records alone.
+macro_rules! asked {
+    ($call:ident($($given:expr),*)) => {
+        // SAFETY: the library takes any record; a reference is live and is nobody else's.
+        unsafe { $call($($given),*) }
+    };
+}
+
+// ---- video memory
+
+/// Four planes and a picture, its own (`Vec<u8>`, `Box<[u8]>`) or lent to it (`&mut [u8]`). Any lengths may stand here: a call on wrong ones is refused.
+pub struct Vram<B = Vec<u8>> {
+    planes: [B; 4],
+    picture: B,
+}
+
+impl Vram {
+    /// Planes of 65,536 bytes and their picture, all 0.
+    pub fn new() -> Self {
+        let plane = || vec![0; 65536];
+        Vram { planes: [plane(), plane(), plane(), plane()], picture: vec![0; 8 * 65536] }
+    }
+}
+
+impl Default for Vram {
+    fn default() -> Self {
+        Vram::new()
+    }
+}
+
+impl<B: AsRef<[u8]> + AsMut<[u8]>> Vram<B> {
+    pub fn over(planes: [B; 4], picture: B) -> Self {
+        Vram { planes, picture }
+    }
+
+    fn parts(&self) -> [&[u8]; 5] {
+        let [a, b, c, d] = &self.planes;
+        [a.as_ref(), b.as_ref(), c.as_ref(), d.as_ref(), self.picture.as_ref()]
+    }
+
+    fn parts_mut(&mut self) -> [&mut [u8]; 5] {
+        let [a, b, c, d] = &mut self.planes;
+        [a.as_mut(), b.as_mut(), c.as_mut(), d.as_mut(), self.picture.as_mut()]
+    }
+
+    pub fn plane(&self, plane: usize) -> &[u8] {
+        self.planes[plane].as_ref()
+    }
+
+    pub fn picture(&self) -> &[u8] {
+        self.picture.as_ref()
+    }
+
+    pub fn read_glyph(&self, offset: usize) -> Result<u8, Refusal> {
+        seen!(iddesmar_vram_read_glyph(; self; offset)).byte()
+    }
+
+    pub fn peek_u8(&self, plane: usize, offset: usize) -> Result<u8, Refusal> {
+        seen!(iddesmar_vram_peek_u8(; self; plane, offset)).byte()
+    }
+
+    pub fn read_u8(&self, plane: usize, offset: usize) -> Result<u8, Refusal> {
+        seen!(iddesmar_vram_read_u8(; self; plane, offset)).byte()
+    }
+
+    pub fn write_u8(&mut self, plane: usize, offset: usize, data: u8) -> Result<(), Refusal> {
+        lent!(iddesmar_vram_write_u8(; self; plane, offset, data)).done()
+    }
+
+    pub fn read_linear(&self, place: usize) -> Result<u8, Refusal> {
+        seen!(iddesmar_vram_read_linear(; self; place)).byte()
+    }
+
+    pub fn serialize_linear(&self, offset: usize) -> Result<[u8; 8], Refusal> {
+        let shown = seen!(iddesmar_vram_serialize_linear(; self; offset));
+        judged(shown.number, shown.pixels)
+    }
+
+    pub fn deplane(&mut self, offset: usize) -> Result<(), Refusal> {
+        let [a, b, c, d, e] = self.parts_mut();
+        // SAFETY: as for `lent`; the planes are read alone.
+        unsafe { iddesmar_vram_deplane(a.as_ptr(), a.len(), b.as_ptr(), b.len(), c.as_ptr(), c.len(), d.as_ptr(), d.len(), e.as_mut_ptr(), e.len(), offset) }.done()
+    }
+
+    pub fn plane_set(&mut self, plane: usize, offset: usize, data: u8) -> Result<(), Refusal> {
+        lent!(iddesmar_vram_plane_set(; self; plane, offset, data)).done()
+    }
+
+    pub fn plane_and(&mut self, plane: usize, offset: usize, data: u8) -> Result<(), Refusal> {
+        lent!(iddesmar_vram_plane_and(; self; plane, offset, data)).done()
+    }
+
+    pub fn plane_or(&mut self, plane: usize, offset: usize, data: u8) -> Result<(), Refusal> {
+        lent!(iddesmar_vram_plane_or(; self; plane, offset, data)).done()
+    }
+}
+
+// ---- the sequencer
+
+/// The sequencer, with the memory inside as MartyPC has it.
+pub struct Sequencer<B = Vec<u8>> {
+    record: SequencerRecord,
+    pub vram: Vram<B>,
+}
+
+impl Sequencer {
+    pub fn new() -> Self {
+        Sequencer::over(Vram::new())
+    }
+}
+
+impl Default for Sequencer {
+    fn default() -> Self {
+        Sequencer::new()
+    }
+}
+
+impl<B: AsRef<[u8]> + AsMut<[u8]>> Sequencer<B> {
+    /// A sequencer at its start, over memory that is handed in.
+    pub fn over(vram: Vram<B>) -> Self {
+        Sequencer { record: asked!(iddesmar_seq_new()), vram }
+    }
+
+    pub fn record(&self) -> &SequencerRecord {
+        &self.record
+    }
+
+    fn moved(&mut self, left: SequencerAnswer) -> Answer {
+        self.record = left.seq;
+        left.answer
+    }
+
+    /// Memory stays.
+    pub fn reset(&mut self) {
+        let left = asked!(iddesmar_seq_reset(self.record));
+        self.moved(left);
+    }
+
+    pub fn clock(&self) -> Result<u32, Refusal> {
+        let clock = asked!(iddesmar_seq_clock(self.record));
+        judged(clock.number, clock.clock)
+    }
+
+    pub fn set_clock_change_pending(&mut self) -> Result<(), Refusal> {
+        let left = asked!(iddesmar_seq_set_clock_change_pending(self.record));
+        self.moved(left).done()
+    }
+
+    pub fn poll_clock_change(&mut self) -> Result<bool, Refusal> {
+        let left = asked!(iddesmar_seq_poll_clock_change(self.record));
+        self.moved(left).flag()
+    }
+
+    pub fn read_address(&self) -> Result<u8, Refusal> {
+        asked!(iddesmar_seq_read_address(self.record)).byte()
+    }
+
+    pub fn write_address(&mut self, byte: u8) -> Result<(), Refusal> {
+        let left = asked!(iddesmar_seq_write_address(self.record, byte));
+        self.moved(left).done()
+    }
+
+    pub fn read_data(&self) -> Result<u8, Refusal> {
+        asked!(iddesmar_seq_read_data(self.record)).byte()
+    }
+
+    pub fn write_data(&mut self, data: u8) -> Result<(), Refusal> {
+        let left = asked!(iddesmar_seq_write_data(self.record, data));
+        self.moved(left).done()
+    }
+
+    pub fn cpu_read_u8(&self, plane: usize, offset: usize, a0: bool) -> Result<u8, Refusal> {
+        seen!(iddesmar_seq_cpu_read_u8(self.record; self.vram; plane, offset, a0)).byte()
+    }
+
+    pub fn gc_read_u8(&self, plane: usize, offset: usize, a0: bool) -> Result<u8, Refusal> {
+        seen!(iddesmar_seq_gc_read_u8(self.record; self.vram; plane, offset, a0)).byte()
+    }
+
+    pub fn peek_u8(&self, plane: usize, offset: usize, a0: bool) -> Result<u8, Refusal> {
+        seen!(iddesmar_seq_peek_u8(self.record; self.vram; plane, offset, a0)).byte()
+    }
+
+    pub fn read_linear(&self, place: usize) -> Result<u8, Refusal> {
+        seen!(iddesmar_seq_read_linear(self.record; self.vram; place)).byte()
+    }
+
+    pub fn serialize_linear(&self, offset: usize) -> Result<[u8; 8], Refusal> {
+        let shown = seen!(iddesmar_seq_serialize_linear(self.record; self.vram; offset));
+        judged(shown.number, shown.pixels)
+    }
+
+    pub fn plane_set(&mut self, plane: usize, offset: usize, a0: bool, data: u8) -> Result<(), Refusal> {
+        lent!(iddesmar_seq_plane_set(self.record; self.vram; plane, offset, a0, data)).done()
+    }
+
+    pub fn plane_and(&mut self, plane: usize, offset: usize, a0: bool, data: u8) -> Result<(), Refusal> {
+        lent!(iddesmar_seq_plane_and(self.record; self.vram; plane, offset, a0, data)).done()
+    }
+
+    pub fn plane_or(&mut self, plane: usize, offset: usize, a0: bool, data: u8) -> Result<(), Refusal> {
+        lent!(iddesmar_seq_plane_or(self.record; self.vram; plane, offset, a0, data)).done()
+    }
+}
+
+// ---- the graphics controller
+
+/// The controller's one record, updated where it stands.
+pub struct GraphicsController {
+    record: ControllerRecord,
+}
+
+impl Default for GraphicsController {
+    fn default() -> Self {
+        GraphicsController::new()
+    }
+}
+
+impl GraphicsController {
+    pub fn new() -> Self {
+        GraphicsController { record: asked!(iddesmar_gc_new()) }
+    }
+
+    pub fn record(&self) -> &ControllerRecord {
+        &self.record
+    }
+
+    pub fn reset(&mut self) {
+        asked!(iddesmar_gc_reset(&mut self.record));
+    }
+
+    pub fn chain(&self) -> Result<bool, Refusal> {
+        asked!(iddesmar_gc_chain(self.record)).flag()
+    }
+
+    pub fn chain4(&self) -> Result<bool, Refusal> {
+        asked!(iddesmar_gc_chain4(self.record)).flag()
+    }
+
+    pub fn memory_map(&self) -> Result<MemoryMap, Refusal> {
+        use MemoryMap::*;
+        asked!(iddesmar_gc_memory_map(self.record)).chosen(&[A0000_128k, A0000_64K, B0000_32K, B8000_32K])
+    }
+
+    pub fn odd_even(&self) -> Result<OddEvenModeComplement, Refusal> {
+        use OddEvenModeComplement::*;
+        asked!(iddesmar_gc_odd_even(self.record)).chosen(&[Sequential, OddEven])
+    }
+
+    pub fn shift_mode(&self) -> Result<ShiftMode, Refusal> {
+        use ShiftMode::*;
+        asked!(iddesmar_gc_shift_mode(self.record)).chosen(&[Standard, CGACompatible, Chain4, Unused])
+    }
+
+    pub fn read_address(&self) -> Result<u8, Refusal> {
+        asked!(iddesmar_gc_read_address(self.record)).byte()
+    }
+
+    pub fn write_address(&mut self, byte: u8) -> Result<(), Refusal> {
+        asked!(iddesmar_gc_write_address(&mut self.record, byte)).done()
+    }
+
+    pub fn read_data(&self) -> Result<u8, Refusal> {
+        asked!(iddesmar_gc_read_data(self.record)).byte()
+    }
+
+    pub fn write_data(&mut self, byte: u8) -> Result<(), Refusal> {
+        asked!(iddesmar_gc_write_data(&mut self.record, byte)).done()
+    }
+
+    /// The plane offset and a0.
+    pub fn map_address(&self, address: usize, page_select: PageSelect) -> Result<(usize, bool), Refusal> {
+        let mapped = asked!(iddesmar_gc_map_address(self.record, address, page_select == PageSelect::HighPage));
+        judged(mapped.number, (mapped.offset, mapped.a0))
+    }
+
+    pub fn cpu_read_u8<B: AsRef<[u8]> + AsMut<[u8]>>(&mut self, seq: &Sequencer<B>, address: usize, page_select: PageSelect) -> Result<u8, Refusal> {
+        seen!(iddesmar_gc_cpu_read_u8(&mut self.record, seq.record; seq.vram; address, page_select == PageSelect::HighPage)).byte()
+    }
+
+    pub fn cpu_peek_u8<B: AsRef<[u8]> + AsMut<[u8]>>(&self, seq: &Sequencer<B>, address: usize, page_select: PageSelect) -> Result<u8, Refusal> {
+        seen!(iddesmar_gc_cpu_peek_u8(self.record, seq.record; seq.vram; address, page_select == PageSelect::HighPage)).byte()
+    }
+
+    pub fn cpu_write_u8<B: AsRef<[u8]> + AsMut<[u8]>>(&mut self, seq: &mut Sequencer<B>, address: usize, page_select: PageSelect, byte: u8) -> Result<(), Refusal> {
+        lent!(iddesmar_gc_cpu_write_u8(&mut self.record, seq.record; seq.vram; address, page_select == PageSelect::HighPage, byte)).done()
+    }
+
+    /// The eight pixels of a plane offset.
+    pub fn serialize<B: AsRef<[u8]> + AsMut<[u8]>>(&self, seq: &Sequencer<B>, offset: usize) -> Result<[u8; 8], Refusal> {
+        let shown = seen!(iddesmar_gc_serialize(self.record, seq.record; seq.vram; offset));
+        judged(shown.number, shown.pixels)
+    }
+}

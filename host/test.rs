@@ -1,0 +1,188 @@
+//! A host in Rust, by the safe calls of iddesmar.rs alone: runs the list of calls on standard input as `replay` does, and prints the same lines.
+//! It starts without Rust's own start, which the kit's emulator cannot carry out.
+#![no_main]
+#![deny(unsafe_code)]
+
+#[allow(unsafe_code)]
+mod iddesmar;
+
+use iddesmar::{GraphicsController, PageSelect, Refusal, Sequencer, Vram};
+use std::io::{BufRead, BufWriter, Write};
+
+/// Both, over memory that the host lends.
+struct Host<'a> {
+    gc: GraphicsController,
+    seq: Sequencer<&'a mut [u8]>,
+}
+
+fn value<T: Into<u64>>(answer: Result<T, Refusal>) -> String {
+    match answer {
+        Ok(given) => format!("0 {}", given.into()),
+        Err(refusal) => format!("{} 0", refusal.number()),
+    }
+}
+
+fn done(answer: Result<(), Refusal>) -> String {
+    value(answer.map(|()| 0u8))
+}
+
+fn shown(answer: Result<[u8; 8], Refusal>) -> String {
+    match answer {
+        Ok(pixels) => format!("0 {}", pixels.iter().map(|pixel| format!("{:X}", pixel % 16)).collect::<String>()),
+        Err(refusal) => format!("{} 0", refusal.number()),
+    }
+}
+
+fn mapped(answer: Result<(usize, bool), Refusal>) -> String {
+    match answer {
+        Ok((offset, a0)) => format!("0 {offset} {}", u8::from(a0)),
+        Err(refusal) => format!("{} 0 0", refusal.number()),
+    }
+}
+
+fn page(number: usize) -> PageSelect {
+    if number == 0 { PageSelect::LowPage } else { PageSelect::HighPage }
+}
+
+fn sum(bytes: &[u8]) -> [u32; 2] {
+    bytes.iter().fold([1u32, 0], |[first, second], byte| {
+        let first = first.wrapping_add(u32::from(*byte));
+        [first, second.wrapping_add(first)]
+    })
+}
+
+impl Host<'_> {
+    fn digest(&self) -> String {
+        let (gc, seq, vram) = (self.gc.record(), self.seq.record(), &self.seq.vram);
+        let bytes = [
+            gc.register_select_byte, gc.register_selected, gc.set_reset, gc.enable_set_reset, gc.color_compare, gc.data_rotate,
+            gc.read_map_select, gc.mode, gc.miscellaneous, gc.color_dont_care, gc.bitmask,
+            seq.address_byte, seq.register_selected, seq.reset, seq.clocking_mode, seq.map_mask, seq.character_map_select, seq.memory_mode,
+            u8::from(seq.clock_change_pending),
+        ];
+        let stats = gc.stats;
+        let mut all: Vec<u32> = bytes.map(u32::from).to_vec();
+        all.extend([seq.clock_divisor, seq.char_clock]);
+        all.extend(gc.latches.map(u32::from));
+        all.extend([stats.mode_0_writes, stats.mode_1_writes, stats.mode_2_writes, stats.mode_3_writes, stats.mode_0_reads, stats.mode_1_reads]);
+        all.extend((0..4).flat_map(|plane| sum(vram.plane(plane))));
+        all.extend(sum(vram.picture()));
+        format!("0 {}", all.iter().map(u32::to_string).collect::<Vec<_>>().join(" "))
+    }
+
+    fn vram_call(&mut self, operation: usize, x: &[usize; 4]) -> String {
+        let vram = &mut self.seq.vram;
+        match operation {
+            1 => value(vram.read_u8(x[0], x[1])),
+            2 => value(vram.peek_u8(x[0], x[1])),
+            3 => value(vram.read_glyph(x[0])),
+            4 => value(vram.read_linear(x[0])),
+            5 => shown(vram.serialize_linear(x[0])),
+            6 => done(vram.write_u8(x[0], x[1], x[2] as u8)),
+            7 => done(vram.plane_set(x[0], x[1], x[2] as u8)),
+            8 => done(vram.plane_and(x[0], x[1], x[2] as u8)),
+            9 => done(vram.plane_or(x[0], x[1], x[2] as u8)),
+            _ => done(vram.deplane(x[0])),
+        }
+    }
+
+    fn sequencer_call(&mut self, operation: usize, x: &[usize; 4]) -> String {
+        let (seq, a0) = (&mut self.seq, x[2] != 0);
+        match operation {
+            11 => {
+                seq.reset();
+                done(Ok(()))
+            }
+            12 => value(seq.clock()),
+            13 => done(seq.set_clock_change_pending()),
+            14 => value(seq.poll_clock_change()),
+            15 => value(seq.read_address()),
+            16 => value(seq.read_data()),
+            17 => done(seq.write_address(x[0] as u8)),
+            18 => done(seq.write_data(x[0] as u8)),
+            19 => value(seq.cpu_read_u8(x[0], x[1], a0)),
+            20 => value(seq.peek_u8(x[0], x[1], a0)),
+            21 => value(seq.gc_read_u8(x[0], x[1], a0)),
+            22 => value(seq.read_linear(x[0])),
+            23 => shown(seq.serialize_linear(x[0])),
+            24 => done(seq.plane_set(x[0], x[1], a0, x[3] as u8)),
+            25 => done(seq.plane_and(x[0], x[1], a0, x[3] as u8)),
+            _ => done(seq.plane_or(x[0], x[1], a0, x[3] as u8)),
+        }
+    }
+
+    fn controller_call(&mut self, operation: usize, x: &[usize; 4]) -> String {
+        let (gc, seq) = (&mut self.gc, &mut self.seq);
+        match operation {
+            27 => {
+                gc.reset();
+                done(Ok(()))
+            }
+            28 => value(gc.chain()),
+            29 => value(gc.chain4()),
+            30 => value(gc.memory_map().map(|map| map as u8)),
+            31 => value(gc.odd_even().map(|mode| mode as u8)),
+            32 => value(gc.shift_mode().map(|mode| mode as u8)),
+            33 => value(gc.read_address()),
+            34 => value(gc.read_data()),
+            35 => done(gc.write_address(x[0] as u8)),
+            36 => done(gc.write_data(x[0] as u8)),
+            37 => mapped(gc.map_address(x[0], page(x[1]))),
+            38 => value(gc.cpu_read_u8(seq, x[0], page(x[1]))),
+            39 => value(gc.cpu_peek_u8(seq, x[0], page(x[1]))),
+            40 => done(gc.cpu_write_u8(seq, x[0], page(x[1]), x[2] as u8)),
+            _ => shown(gc.serialize(seq, x[0])),
+        }
+    }
+
+    fn call(&mut self, operation: usize, x: &[usize; 4]) -> String {
+        match operation {
+            0 => self.digest(),
+            1..=10 => self.vram_call(operation, x),
+            11..=26 => self.sequencer_call(operation, x),
+            _ => self.controller_call(operation, x),
+        }
+    }
+}
+
+/// Memory of wrong lengths is refused, whichever slice is wrong, and so is an offset outside: nothing is read beyond.
+fn refusals() -> bool {
+    let mut host = (0..5).map(|short| {
+        let length = |i: usize, n: usize| vec![0; if i == short { n - 1 } else { n }];
+        let vram = Vram::over([length(0, 16), length(1, 16), length(2, 16), length(3, 16)], length(4, 128));
+        Sequencer::over(vram)
+    });
+    let mut gc = GraphicsController::new();
+    host.all(|mut seq| {
+        gc.cpu_write_u8(&mut seq, 0xA0000, PageSelect::LowPage, 1) == Err(Refusal::Memory)
+            && gc.cpu_read_u8(&seq, 0xA0000, PageSelect::LowPage) == Err(Refusal::Memory)
+            && gc.serialize(&seq, 0) == Err(Refusal::Memory)
+            && seq.plane_set(0, usize::MAX, false, 1) == Err(Refusal::Memory)
+            && seq.vram.read_u8(usize::MAX, usize::MAX) == Err(Refusal::Memory)
+    })
+}
+
+fn run() -> i32 {
+    let mut lengths = [65536, 65536, 65536, 65536, 524288].map(|n| vec![0u8; n]);
+    let [p0, p1, p2, p3, picture] = lengths.each_mut().map(Vec::as_mut_slice);
+    let mut host = Host { gc: GraphicsController::new(), seq: Sequencer::over(Vram::over([p0, p1, p2, p3], picture)) };
+    let mut out = BufWriter::new(std::io::stdout());
+    let mut line_number = 0;
+    for line in std::io::stdin().lock().lines() {
+        let line = line.expect("a line");
+        let words: Vec<usize> = line.split('#').next().unwrap_or("").split_whitespace().map(|word| word.parse().expect("a number")).collect();
+        let Some((operation, arguments)) = words.split_first() else { continue };
+        let mut x = [0; 4];
+        x[..arguments.len()].copy_from_slice(arguments);
+        line_number += 1;
+        writeln!(out, "{line_number} {operation} {}", host.call(*operation, &x)).expect("a line out");
+    }
+    out.flush().expect("lines out");
+    i32::from(!refusals())
+}
+
+#[allow(unsafe_code)]
+#[no_mangle]
+pub extern "C" fn main(_argc: i32, _argv: *const *const u8) -> i32 {
+    run()
+}
