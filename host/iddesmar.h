@@ -105,8 +105,8 @@ typedef struct iddesmar_mapped {
 
 /* The eight pixels of an offset, in bits 0 to 3 of a byte each; eight zeros where refused. */
 typedef struct iddesmar_shown {
-    uint8_t number;
     uint8_t pixels[8];
+    uint8_t number;
 } iddesmar_shown;
 
 /* An answer, and the sequencer's record as it is left. */
@@ -127,7 +127,7 @@ IDDESMAR_ASSERT(offsetof(iddesmar_seq, char_clock) == 12);
 IDDESMAR_ASSERT(sizeof(iddesmar_answer) == 2);
 IDDESMAR_ASSERT(sizeof(iddesmar_clock) == 8 && offsetof(iddesmar_clock, number) == 4);
 IDDESMAR_ASSERT(sizeof(iddesmar_mapped) == 16 && offsetof(iddesmar_mapped, number) == 8 && offsetof(iddesmar_mapped, a0) == 9);
-IDDESMAR_ASSERT(sizeof(iddesmar_shown) == 9 && offsetof(iddesmar_shown, pixels) == 1);
+IDDESMAR_ASSERT(sizeof(iddesmar_shown) == 9 && offsetof(iddesmar_shown, number) == 8);
 IDDESMAR_ASSERT(sizeof(iddesmar_seq_answer) == 20 && offsetof(iddesmar_seq_answer, seq) == 4);
 
 /* The five lent parts of a call, each with its length: to be read, and to be written. */

@@ -170,8 +170,8 @@ struct Mapped {
 
 #[repr(C)]
 struct Shown {
-    number: u8,
     pixels: [u8; 8],
+    number: u8,
 }
 
 #[repr(C)]
@@ -193,7 +193,7 @@ const _: () = {
     assert!(size_of::<Answer>() == 2);
     assert!(size_of::<Clock>() == 8 && offset_of!(Clock, number) == 4);
     assert!(size_of::<Mapped>() == 16 && offset_of!(Mapped, number) == 8 && offset_of!(Mapped, a0) == 9);
-    assert!(size_of::<Shown>() == 9 && offset_of!(Shown, pixels) == 1);
+    assert!(size_of::<Shown>() == 9 && offset_of!(Shown, number) == 8);
     assert!(size_of::<SequencerAnswer>() == 20 && offset_of!(SequencerAnswer, seq) == 4);
 };
 

@@ -45,8 +45,8 @@ pub struct Mapped {
 // The eight pixels of a show by value, since a part of a lent slice cannot cross the boundary; eight zeros where refused.
 #[repr(C)]
 pub struct Shown {
-    pub number: u8,
     pub pixels: [u8; 8],
+    pub number: u8,
 }
 
 // An answer and the sequencer's record as it is left.
