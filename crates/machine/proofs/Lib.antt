@@ -3,6 +3,7 @@ pub mod Laws
 pub mod Isolation
 pub mod NoPrice
 pub mod Computed
+pub mod Worked
 pub mod TwelveCases
 pub mod Refusals
 pub mod Counters
@@ -11,3 +12,6 @@ pub mod Once
 pub mod Injective
 pub mod Example
 pub mod DataPath
+pub mod RegisterRules
+pub mod DirectRules
+pub mod AccessRules

@@ -6,7 +6,7 @@ use mathlib.Core.Path.{_≡_, refl, sym, ap, ap₂, _∙_}
 use mathlib.Core.List.{List, [], _∷_, map}
 use lib.Pow.{pow-pos}
 use Rattle.bits.proofs.Laws.{bit-shr, bit-mod, bits-ext, all-bits}
-use Rattle.machine.specs.Answers.{Value, pixel, part, Said, said}
+use Rattle.machine.specs.Answers.{Value, one, two, pixel, part, Said, said}
 use Rattle.machine.specs.Step.{State, Call, step, run}
 use Rattle.machine.specs.Isolation.{Agree, Both, none, more, Alike, AlikeValue, same, pixels, parts, AlikeSaid, Obeys, Along, Throughout, less, lessSaid}
 use Rattle.machine.proofs.Isolation.{isolation}
@@ -42,3 +42,9 @@ module _ (k : ℕ) where
 
 pub no-price : (cs : List Call) (s t : State) → Alike 3 s t → Along (Obeys 3) s cs → map (lessSaid 3) (run s cs .answers) ≡ map (lessSaid 3) (run t cs .answers)
 no-price cs s t a h = answers-less 3 cs s t (isolation 3 cs s t a h)
+
+-- what `less` takes away, by computation: bit 3 of a pixel and of a part's pixels, and nothing of a byte, a refusal's number or an address
+pub less-told : map (lessSaid 3) (said 0 (one 0xFF) ∷ said 0 (two 0xFF 1) ∷ said 5 (pixel 0) ∷ said 0 (pixel 0xFF) ∷ said 0 (part (0 ∷ 7 ∷ 8 ∷ 15 ∷ 0xF7 ∷ [])) ∷ [])
+    ≡ said 0 (one 0xFF) ∷ said 0 (two 0xFF 1) ∷ said 5 (pixel 0) ∷ said 0 (pixel 0xF7) ∷ said 0 (part (0 ∷ 7 ∷ 0 ∷ 7 ∷ 0xF7 ∷ [])) ∷ []
+unfolding lessSaid less
+less-told = refl

@@ -4,7 +4,8 @@ use native.Mathlib.Omega.{arith}
 use mathlib.Core.Logic.{_≢_, _↔_}
 use mathlib.Core.Path.{_≡_, refl, sym, ap, _∙_, subst}
 use mathlib.Core.Bool.{Bool, true, false, _&&_}
-use mathlib.Core.List.{List, [], _∷_}
+use mathlib.Core.List.{List, [], _∷_, map}
+use lib.ListN.{replicate}
 use lib.Dec.{eqb, ltb, leb}
 use borrow.Author.Tests.{ltb-true, leb-true, eqb-true, lt-ltb, le-leb, eq-eqb}
 use Rattle.machine.specs.declared.graphics.MemoryMap.{MemoryMap}
@@ -275,6 +276,10 @@ refused-in-order s (sequencer c) = sequencer-ordered (s .seq) c
 refused-in-order s (direct c) = direct-ordered (s .seq) (s .memory) c
 refused-in-order s (graphics c) = graphics-ordered (s .gc .registers) c
 refused-in-order s (cpu c) = cpu-ordered (s .gc .registers) (s .seq) (s .memory) c
+
+-- what the word rules out: neighbours exchanged, a number twice, a number that is none
+pub out-of-order : map (λ ns. inOrder order (map (λ n. check n (Unit {0})) ns)) ((1 ∷ 6 ∷ []) ∷ (9 ∷ 1 ∷ []) ∷ (4 ∷ 9 ∷ []) ∷ (2 ∷ 4 ∷ []) ∷ (3 ∷ 2 ∷ []) ∷ (5 ∷ 3 ∷ []) ∷ (6 ∷ 6 ∷ []) ∷ (7 ∷ []) ∷ []) ≡ replicate 8 false
+out-of-order = refl
 
 blank-blank : (v : Value) → blank v ≡ blank (blank v)
 blank-blank (one x) = refl

@@ -2,55 +2,11 @@
 use Prim.Native.Nat.{ℕ}
 use mathlib.Core.Path.{_≡_, refl}
 use mathlib.Core.Bool.{true, false}
-use mathlib.Core.List.{List, [], _∷_, _++_, map}
+use mathlib.Core.List.{List, [], _∷_, _++_}
 use lib.ListN.{replicate, take}
-use Rattle.machine.specs.Memory.{Memory, mem}
-use Rattle.machine.specs.Answers.{Value, one, two, pixel, part, Said}
-use Rattle.machine.specs.Graphics.{freshGc}
-use Rattle.machine.specs.Sequencer.{freshSeq}
-use Rattle.machine.specs.Calls.{readU8, writeU8, seqWriteAddress, seqWriteData, gcReadAddress, gcReadData, gcWriteAddress, gcWriteData, gcMapAddress, cpuRead, cpuWrite}
-use Rattle.machine.specs.Step.{State, state, Call, vram, sequencer, graphics, cpu}
-use Rattle.machine.proofs.Computed.{computed}
-
--- both register sets at their start, eight bytes a plane, all 0
-start : State
-start = state freshGc freshSeq (mem (replicate 8 0) (replicate 8 0) (replicate 8 0) (replicate 8 0) (replicate 64 0))
-
--- an answer as numbers: its own, then its value's
-told : Said → List ℕ
-told a = a .number ∷ values (a .value)
-  where
-    values : Value → List ℕ
-    values (one x) = x ∷ []
-    values (two x y) = x ∷ y ∷ []
-    values (pixel x) = x ∷ []
-    values (part l) = l
-
--- a register written: its number, its data
-gcTo : ℕ → ℕ → List Call
-gcTo n x = graphics (gcWriteAddress n) ∷ graphics (gcWriteData x) ∷ []
-
-seqTo : ℕ → ℕ → List Call
-seqTo n x = sequencer (seqWriteAddress n) ∷ sequencer (seqWriteData x) ∷ []
-
--- what calls say, after others that set the registers and the memory up
-says : List Call → List Call → List ℕ
-unfolding start told computed
-says set cs = flat (computed (computed start set .final) cs .answers)
-  where
-    flat : List Said → List ℕ
-    flat [] = []
-    flat (a ∷ as′) = told a ++ flat as′
-
--- what they leave
-leaves : List Call → Memory
-unfolding start computed
-leaves cs = computed start cs .final .memory
-
--- where addresses lead, with Miscellaneous so and the page bit clear
-leads : ℕ → List ℕ → List ℕ
-unfolding says gcTo
-leads m xs = says (gcTo 6 m) (map (λ x. graphics (gcMapAddress x false)) xs)
+use Rattle.machine.specs.Calls.{readU8, writeU8, gcReadAddress, gcReadData, gcWriteAddress, gcWriteData, gcMapAddress, cpuRead, cpuWrite}
+use Rattle.machine.specs.Step.{Call, vram, graphics, cpu}
+use Rattle.machine.proofs.Worked.{gcTo, seqTo, says, leaves, leads}
 
 -- the 64K window, every plane in the mask, sequential, Bit Mask so, Data Rotate so; a latch byte in plane 0
 drawing : ℕ → ℕ → ℕ → List Call

@@ -1,0 +1,82 @@
+-- Document 01's rules on the processor's accesses that no case of the twelve reaches: windows, planes, masks, modes, counters. As in RegisterRules, by computation.
+use Prim.Native.Nat.{ℕ}
+use mathlib.Core.Path.{_≡_, refl}
+use mathlib.Core.Bool.{false}
+use mathlib.Core.List.{List, [], _∷_, _++_}
+use lib.ListN.{replicate}
+use Rattle.machine.specs.Calls.{gcReset, cpuRead, cpuPeek, cpuWrite, serialize}
+use Rattle.machine.specs.Step.{Call, graphics, cpu}
+use Rattle.machine.proofs.Computed.{computed}
+use Rattle.machine.proofs.Worked.{start, gcTo, seqTo, says, leads, each, tops, painted}
+
+-- the six counters after calls
+counters : List Call → List ℕ
+unfolding start computed
+counters cs = let c = computed start cs .final .gc .stats in c .«mode_0_writes» ∷ c .«mode_1_writes» ∷ c .«mode_2_writes» ∷ c .«mode_3_writes» ∷ c .«mode_0_reads» ∷ c .«mode_1_reads» ∷ []
+
+-- so many writes and reads under a Mode
+accessed : ℕ → ℕ → ℕ → List Call
+unfolding gcTo
+accessed mode w r = gcTo 5 mode ++ (replicate w (cpu (cpuWrite 0xA0000 false 0)) ++ replicate r (cpu (cpuRead 0xA0000 false)))
+
+pub accesses : List (List ℕ)
+unfolding says tops painted counters accessed each gcTo seqTo leads
+accesses =
+    -- the windows' other ends
+    leads 0 (0x9FFFF ∷ 0xA0000 ∷ 0xC0000 ∷ [])
+    ∷ leads 4 (0xA0000 ∷ [])
+    ∷ leads 12 (0xB7FFF ∷ 0xB8000 ∷ [])
+    -- 128K, chain set: bit 16 in bit 0, the rest as it stands
+    ∷ leads 2 (0xA1236 ∷ 0xB1235 ∷ [])
+    -- refusal 9 in CGA and Chain4 alone
+    ∷ each (λ m. says (gcTo 5 m) (cpu (serialize 7) ∷ [])) (0x20 ∷ 0x40 ∷ [])
+    ∷ says (gcTo 5 0x60) (cpu (serialize 7) ∷ [])
+    -- selected-plane reads: map select 0 to 3; with GC odd/even its bit 0 replaced by a0
+    ∷ each (λ n. says (painted ++ gcTo 4 n) (cpu (cpuRead 0xA0000 false) ∷ [])) (0 ∷ 1 ∷ 2 ∷ 3 ∷ [])
+    ∷ each (λ n. says (painted ++ (gcTo 5 0x10 ++ gcTo 4 n)) (cpu (cpuRead 0xA0000 false) ∷ cpu (cpuRead 0xA0001 false) ∷ [])) (0 ∷ 1 ∷ 2 ∷ 3 ∷ [])
+    -- writes under GC odd/even: planes 0 and 2, or 1 and 3 with a0
+    ∷ tops (painted ++ (gcTo 5 0x10 ++ (cpu (cpuWrite 0xA0000 false 0xFF) ∷ cpu (cpuWrite 0xA0001 false 0xFF) ∷ [])))
+    -- each mode through Map Mask 6, sequential and under GC odd/even; each mode under chain-four: plane 1 alone, at 0
+    ∷ each (λ m. tops (painted ++ (seqTo 2 6 ++ (gcTo 5 m ++ (cpu (cpuRead 0xA0000 false) ∷ cpu (cpuWrite 0xA0001 false 0xFF) ∷ []))))) (0 ∷ 1 ∷ 2 ∷ 0x10 ∷ 0x11 ∷ 0x12 ∷ [])
+    ∷ each (λ m. tops (painted ++ (seqTo 4 12 ++ (gcTo 5 m ++ (cpu (cpuRead 0xA0001 false) ∷ cpu (cpuWrite 0xA0001 false 0xFF) ∷ []))))) (0 ∷ 1 ∷ 2 ∷ [])
+    -- mode 0: an enabled Set/Reset bit replaces the byte; mode 1 stores latches; mode 3 nothing; a peek loads no latch
+    ∷ tops (painted ++ (gcTo 0 4 ++ (gcTo 1 5 ++ (cpu (cpuWrite 0xA0000 false 0xF0) ∷ []))))
+    ∷ tops (painted ++ (gcTo 5 1 ++ (gcTo 8 0 ++ (cpu (cpuRead 0xA0000 false) ∷ cpu (cpuWrite 0xA0001 false 0xF0) ∷ []))))
+    ∷ tops (painted ++ (gcTo 5 3 ++ (cpu (cpuWrite 0xA0000 false 0xF0) ∷ [])))
+    ∷ tops (painted ++ (gcTo 5 1 ++ (cpu (cpuPeek 0xA0000 false) ∷ cpu (cpuWrite 0xA0001 false 0xF0) ∷ [])))
+    ∷ says (painted ++ gcTo 4 3) (cpu (cpuPeek 0xA0000 false) ∷ cpu (cpuPeek 0xA0001 false) ∷ [])
+    -- `reset` clears the latches too
+    ∷ tops (painted ++ (cpu (cpuRead 0xA0000 false) ∷ graphics gcReset ∷ (gcTo 6 4 ++ (gcTo 5 1 ++ (cpu (cpuWrite 0xA0001 false 0xF0) ∷ [])))))
+    -- each access raises its mode's counter, no peek and no show any
+    ∷ counters (gcTo 6 4 ++ (accessed 0 1 5 ++ (accessed 1 2 0 ++ (accessed 2 3 0 ++ (accessed 3 4 0 ++ (accessed 8 0 6 ++ (cpu (cpuPeek 0xA0000 false) ∷ cpu (serialize 0) ∷ [])))))))
+    ∷ []
+
+pub accessesSaid : List (List ℕ)
+accessesSaid =
+    (2 ∷ 0 ∷ 0 ∷ 0 ∷ 0 ∷ 0 ∷ 2 ∷ 0 ∷ 0 ∷ [])
+    ∷ (0 ∷ 0 ∷ 0 ∷ [])
+    ∷ (2 ∷ 0 ∷ 0 ∷ 0 ∷ 0 ∷ 0 ∷ [])
+    ∷ (0 ∷ 0x1236 ∷ 0 ∷ 0 ∷ 0x1235 ∷ 1 ∷ [])
+    ∷ (9 ∷ 9 ∷ [])
+    ∷ replicate 9 0
+    ∷ (0 ∷ 0x11 ∷ 0 ∷ 0x22 ∷ 0 ∷ 0x44 ∷ 0 ∷ 0x88 ∷ [])
+    ∷ (0 ∷ 0x11 ∷ 0 ∷ 2 ∷ 0 ∷ 0x11 ∷ 0 ∷ 2 ∷ 0 ∷ 0x44 ∷ 0 ∷ 8 ∷ 0 ∷ 0x44 ∷ 0 ∷ 8 ∷ [])
+    ∷ (0xFF ∷ 1 ∷ 0x22 ∷ 0xFF ∷ 0xFF ∷ 4 ∷ 0x88 ∷ 0xFF ∷ [])
+    ∷ ((0x11 ∷ 1 ∷ 0x22 ∷ 0xFF ∷ 0x44 ∷ 0xFF ∷ 0x88 ∷ 8 ∷ [])
+    ++ ((0x11 ∷ 1 ∷ 0x22 ∷ 0x22 ∷ 0x44 ∷ 0x44 ∷ 0x88 ∷ 8 ∷ [])
+    ++ ((0x11 ∷ 1 ∷ 0x22 ∷ 0xFF ∷ 0x44 ∷ 0xFF ∷ 0x88 ∷ 8 ∷ [])
+    ++ ((0x11 ∷ 1 ∷ 0x22 ∷ 0xFF ∷ 0x44 ∷ 4 ∷ 0x88 ∷ 8 ∷ [])
+    ++ ((0x11 ∷ 1 ∷ 0x22 ∷ 0x22 ∷ 0x44 ∷ 4 ∷ 0x88 ∷ 8 ∷ []) ++ (0x11 ∷ 1 ∷ 0x22 ∷ 0xFF ∷ 0x44 ∷ 4 ∷ 0x88 ∷ 8 ∷ []))))))
+    ∷ ((0x11 ∷ 1 ∷ 0xFF ∷ 2 ∷ 0x44 ∷ 4 ∷ 0x88 ∷ 8 ∷ []) ++ ((0x11 ∷ 1 ∷ 2 ∷ 2 ∷ 0x44 ∷ 4 ∷ 0x88 ∷ 8 ∷ []) ++ (0x11 ∷ 1 ∷ 0xFF ∷ 2 ∷ 0x44 ∷ 4 ∷ 0x88 ∷ 8 ∷ [])))
+    ∷ (0x00 ∷ 1 ∷ 0xF0 ∷ 2 ∷ 0xFF ∷ 4 ∷ 0xF0 ∷ 8 ∷ [])
+    ∷ (0x11 ∷ 0x11 ∷ 0x22 ∷ 0x22 ∷ 0x44 ∷ 0x44 ∷ 0x88 ∷ 0x88 ∷ [])
+    ∷ (0x11 ∷ 1 ∷ 0x22 ∷ 2 ∷ 0x44 ∷ 4 ∷ 0x88 ∷ 8 ∷ [])
+    ∷ (0x11 ∷ 0 ∷ 0x22 ∷ 0 ∷ 0x44 ∷ 0 ∷ 0x88 ∷ 0 ∷ [])
+    ∷ (0 ∷ 0x11 ∷ 0 ∷ 1 ∷ [])
+    ∷ (0x11 ∷ 0 ∷ 0x22 ∷ 0 ∷ 0x44 ∷ 0 ∷ 0x88 ∷ 0 ∷ [])
+    ∷ (1 ∷ 2 ∷ 3 ∷ 4 ∷ 5 ∷ 6 ∷ [])
+    ∷ []
+
+pub access-rules : accesses ≡ accessesSaid
+unfolding accesses accessesSaid
+access-rules = refl

@@ -1,0 +1,80 @@
+-- What worked examples are made of: a start, registers written, what calls say and what they leave. Each computes.
+use Prim.Native.Nat.{ℕ}
+use mathlib.Core.Bool.{false}
+use mathlib.Core.List.{List, [], _∷_, _++_, map}
+use lib.ListN.{replicate, take}
+use Rattle.machine.specs.Memory.{Memory, mem}
+use Rattle.machine.specs.Answers.{Value, one, two, pixel, part, Said}
+use Rattle.machine.specs.Graphics.{freshGc}
+use Rattle.machine.specs.Sequencer.{freshSeq}
+use Rattle.machine.specs.Calls.{writeU8, seqWriteAddress, seqWriteData, gcWriteAddress, gcWriteData, gcMapAddress}
+use Rattle.machine.specs.Step.{State, state, Call, vram, sequencer, graphics}
+use Rattle.machine.proofs.Computed.{computed}
+
+-- both register sets at their start, eight bytes a plane, all 0
+unfoldable pub start : State
+start = state freshGc freshSeq (mem (replicate 8 0) (replicate 8 0) (replicate 8 0) (replicate 8 0) (replicate 64 0))
+
+-- an answer as numbers: its own, then its value's
+unfoldable pub told : Said → List ℕ
+told a = a .number ∷ values (a .value)
+  where
+    values : Value → List ℕ
+    values (one x) = x ∷ []
+    values (two x y) = x ∷ y ∷ []
+    values (pixel x) = x ∷ []
+    values (part l) = l
+
+-- a register written: its number, its data
+unfoldable pub gcTo : ℕ → ℕ → List Call
+gcTo n x = graphics (gcWriteAddress n) ∷ graphics (gcWriteData x) ∷ []
+
+unfoldable pub seqTo : ℕ → ℕ → List Call
+seqTo n x = sequencer (seqWriteAddress n) ∷ sequencer (seqWriteData x) ∷ []
+
+-- what calls say, after others that set the registers and the memory up
+unfoldable pub says : List Call → List Call → List ℕ
+unfolding start told computed
+says set cs = flat (computed (computed start set .final) cs .answers)
+  where
+    flat : List Said → List ℕ
+    flat [] = []
+    flat (a ∷ as′) = told a ++ flat as′
+
+-- what they leave
+unfoldable pub leaves : List Call → Memory
+unfolding start computed
+leaves cs = computed start cs .final .memory
+
+-- where addresses lead, with Miscellaneous so and the page bit clear
+unfoldable pub leads : ℕ → List ℕ → List ℕ
+unfolding says gcTo
+leads m xs = says (gcTo 6 m) (map (λ x. graphics (gcMapAddress x false)) xs)
+
+-- what is told of each number of a list, one after the other
+unfoldable pub each : (ℕ → List ℕ) → List ℕ → List ℕ
+each f [] = []
+each f (x ∷ xs) = f x ++ each f xs
+
+-- the first two bytes of each plane after calls
+unfoldable pub tops : List Call → List ℕ
+unfolding leaves
+tops cs = let m = leaves cs in take 2 (m .p0) ++ (take 2 (m .p1) ++ (take 2 (m .p2) ++ take 2 (m .p3)))
+
+-- the 64K window, sequential, every plane in the mask, Bit Mask FF; 11, 22, 44, 88 in the planes' first bytes and 1, 2, 4, 8 in the next
+unfoldable pub painted : List Call
+unfolding gcTo seqTo
+painted =
+    gcTo 6 4
+    ++ (seqTo 4 4
+    ++ (seqTo 2 15
+    ++ (gcTo 8 0xFF
+    ++ (vram (writeU8 0 0 0x11)
+    ∷ vram (writeU8 1 0 0x22)
+    ∷ vram (writeU8 2 0 0x44)
+    ∷ vram (writeU8 3 0 0x88)
+    ∷ vram (writeU8 0 1 1)
+    ∷ vram (writeU8 1 1 2)
+    ∷ vram (writeU8 2 1 4)
+    ∷ vram (writeU8 3 1 8)
+    ∷ []))))

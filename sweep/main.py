@@ -1,0 +1,189 @@
+"""The command line of the sweep: which edits, in which order, tried and written down."""
+import argparse
+import sys
+import time
+from collections import Counter
+from pathlib import Path
+from types import SimpleNamespace
+
+import edits
+import texts
+import tries
+
+RESULTS = Path('target/sweep/results.tsv')
+SEED = 20261115
+SPECS = Path('crates/machine/specs')
+
+
+# ---- the edits
+
+
+def source_edits(crate):
+    """All edits of a crate's code, file by file."""
+    fields, variants, constants = {}, {}, {}
+    functions = {}
+    for c in (*tries.CODE, crate):
+        f, v, k = texts.declared(f'crates/{c}')
+        fields, variants, constants = fields | f, variants | v, constants | k
+        for path in Path(f'crates/{c}/src').glob('*.rt'):
+            name = c if path.stem == 'lib' else path.stem
+            functions.setdefault(name if c != crate else path.stem, {}).update(texts.signatures(path.read_text()))
+    files = []
+    for path in sorted(Path(f'crates/{crate}/src').glob('*.rt')):
+        text = path.read_text()
+        here = functions | {'': texts.signatures(text)}
+        tables = SimpleNamespace(fields=fields, variants=variants, constants=constants, functions=here)
+        files.append(edits.edits_of(path, text, texts.rattle_parts(text), edits.rattle_rules, tables, f'{crate}/{path.stem}'))
+    return files
+
+
+def definition_edits():
+    """All edits of machine's definitions, file by file."""
+    paths = [p for p in sorted(SPECS.glob('*.antt')) if p.stem != 'Lib']
+    whole = [p.read_text() for p in paths]
+    types = texts.typed(whole)
+    fields = {r: {n if '_' not in n else f'«{n}»': t for n, t in its.items()} for r, its in texts.declared('crates/machine')[0].items()}
+    for text in whole:
+        fields |= texts.record_fields(text)
+    files = []
+    for path, text in zip(paths, whole):
+        names, groups = texts.imported(text)
+        scope = {n: ' → '.join(t) for n, t in types.items() if n in names or f'\n  {n} ' in text or f'pub {n} :' in text}
+        tables = SimpleNamespace(fields=fields, groups=groups, scope=scope)
+        files.append(edits.edits_of(path, text, texts.antt_parts(text, types), edits.antt_rules, tables, f'specs/{path.stem}'))
+    return files
+
+
+def picked(files, options):
+    """The edits to try, in their order."""
+    some = [edits.chosen(f, f'{options.seed}/{f[0].path}', options.most) for f in files if f]
+    order = edits.in_turn(some)
+    return list(enumerate(order, 1))[options.start - 1:options.to]
+
+
+# ---- results
+
+
+def written():
+    """What was tried before: verdict by id and words."""
+    if not RESULTS.exists():
+        return {}
+    rows = [line.rstrip('\n').split('\t') for line in RESULTS.open()]
+    return {(r[0], r[4], r[5]): r for r in rows}
+
+
+def write_down(edit, verdict, seconds):
+    """A row of the results: id, verdict, seconds, who refused, the edit, its line."""
+    RESULTS.parent.mkdir(parents=True, exist_ok=True)
+    row = [edit.id, verdict.word, f'{seconds:.1f}', verdict.where, edit.told(), edit.context]
+    with RESULTS.open('a') as out:
+        out.write('\t'.join(field.replace('\t', ' ').replace('\n', ' ') for field in row) + '\n')
+
+
+def batch(todo, trying, again):
+    """Tries edits one after the other, and says how far it is."""
+    before = {} if again else written()
+    left = [(k, e) for k, e in todo if (e.id, e.told(), e.context) not in before]
+    print(f'{len(todo)} edits, {len(todo) - len(left)} tried before', flush=True)
+    counts, begun = Counter(), time.time()
+    for i, (k, edit) in enumerate(left, 1):
+        at = time.time()
+        verdict = trying(edit)
+        write_down(edit, verdict, time.time() - at)
+        counts[verdict.word] += 1
+        rest = (time.time() - begun) / i * (len(left) - i) / 60
+        said = ', '.join(f'{n} {w}' for w, n in sorted(counts.items()))
+        print(f'{i} of {len(left)} ({said}; {rest:.0f} min left)  no. {k} {edit.id} {edit.told()}: {verdict.word} {verdict.where[:110]}', flush=True)
+
+
+# ---- commands
+
+
+def files_of(options):
+    """The edits that the command line names."""
+    return definition_edits() if options.what == 'specs' else source_edits(options.crate)
+
+
+def sweep(options):
+    """A batch of tries."""
+    tries.prepare()
+    if options.what == 'specs':
+        ready, trying = tries.unedited('machine'), tries.try_definition
+    else:
+        ready, trying = tries.unedited(options.crate), lambda e: tries.try_source(e, options.crate)
+    if not ready:
+        sys.exit(2)
+    batch(picked(files_of(options), options), trying, options.again)
+
+
+def one(options):
+    """A single try, with what the prover says."""
+    area = options.id.split('/')[0]
+    files = definition_edits() if area == 'specs' else source_edits(area)
+    found = [e for f in files for e in f if e.id == options.id]
+    if not found:
+        sys.exit(f'no edit {options.id}')
+    edit = found[0]
+    print(f'{edit.path}:{edit.line}: {edit.context}\n{edit.told()}', flush=True)
+    tries.prepare()
+    verdict = tries.try_definition(edit) if area == 'specs' else tries.try_source(edit, area)
+    errors = [line[:600] for line in verdict.output.split('\n') if 'error' in line or 'not proved' in line]
+    print('\n'.join(errors[:20] + [f'{verdict.word} {verdict.where}']))
+
+
+def retry():
+    """What survived, or was refused by contracts alone, tried again: after a promise was tightened."""
+    ids = {r[0] for r in written().values() if r[1] in ('survived', 'contracts only')}
+    areas = sorted({i.split('/')[0] for i in ids})
+    tries.prepare()
+    for area in areas:
+        files = definition_edits() if area == 'specs' else source_edits(area)
+        todo = list(enumerate([e for f in files for e in f if e.id in ids], 1))
+        batch(todo, tries.try_definition if area == 'specs' else lambda e, a=area: tries.try_source(e, a), True)
+
+
+def report():
+    """Counts by area and verdict, then each survivor and each edit that only contracts refuse."""
+    rows = list(written().values())
+    counts = Counter((r[0].split('/')[0], r[1]) for r in rows)
+    for (area, word), n in sorted(counts.items()):
+        print(f'{area}: {n} {word}')
+    for word in ('survived', 'contracts only', 'no verdict'):
+        for r in (r for r in rows if r[1] == word):
+            print(f'{word}: {r[0]} {r[4]}\n    {r[5]}\n    {r[3]}')
+
+
+def arguments():
+    """The command line."""
+    parser = argparse.ArgumentParser(prog='sweep/run')
+    parser.add_argument('words', nargs='+', help='src CRATE | specs | one ID | retry | list .. | report')
+    parser.add_argument('--from', dest='start', type=int, default=1)
+    parser.add_argument('--to', type=int, default=None)
+    parser.add_argument('--seed', type=int, default=SEED)
+    parser.add_argument('--most', type=int, default=40, help='edits a file')
+    parser.add_argument('--again', action='store_true')
+    options = parser.parse_args()
+    options.list = options.words[0] == 'list'
+    words = options.words[1:] if options.list else options.words
+    options.what = words[0] if words else ''
+    options.crate = options.id = words[1] if len(words) > 1 else ''
+    return options
+
+
+def main():
+    """Does what the command line says."""
+    options = arguments()
+    if options.what == 'one':
+        one(options)
+    elif options.what in ('report', 'retry'):
+        {'report': report, 'retry': retry}[options.what]()
+    elif options.what not in ('src', 'specs') or (options.what == 'src' and not options.crate):
+        sys.exit('sweep/run src CRATE | specs | one ID | retry | list .. | report')
+    elif options.list:
+        for k, e in picked(files_of(options), options):
+            print(f'{k} {e.id} {e.told()} in: {e.context}')
+    else:
+        sweep(options)
+
+
+main()
