@@ -72,7 +72,7 @@ def read(status, output):
         return Verdict('survived', '', output)
     if re.search(r'/src/[^ ]*: error\[', output) or re.search(r'/specs/[^ ]*: error: (?!.*was not admitted)', output):
         return Verdict('no program', first_error(output), output)
-    if status == 1 and re.search(r': not proved|^logic=not-proved', output, re.M):
+    if status == 1 and re.search(r': not proved|: no proof|^logic=not-proved', output, re.M):
         return Verdict('refused', refusers(output), output)
     return Verdict('no verdict', f'exit {status}: {first_error(output)}', output)
 
@@ -86,15 +86,17 @@ def first_error(output):
 def refusers(output):
     """The theorems and functions that do not hold, those that only call another one left out."""
     laws = re.findall(r'crates/(\w+)/proofs/(\w+)\.antt:\d+:\d+: error: `([^`]+)`: (?!.*was not admitted)', output)
-    functions = re.findall(r'^fn (\S+): not proved$', output, re.M)
+    functions = re.findall(r'^fn (\S+): (?:not proved$|no proof)', output, re.M)
     named = [f'{c}/{m}:{n}' for c, m, n in laws] + functions
     kept = list(dict.fromkeys(named))
     return ' '.join(kept[:6]) + (f' and {len(kept) - 6} more' if len(kept) > 6 else '') if kept else first_error(output)
 
 
 def try_source(edit, crate):
-    """An edit of a crate's code, held to that crate's contracts."""
-    return with_edit(edit, lambda: read(*dev(crate)))
+    """An edit of a crate's code, held to that crate's contracts; one of machine's constants to those of the crates above, which use them."""
+    verdict = with_edit(edit, definition_verdict if crate == 'machine' else lambda: read(*dev(crate)))
+    verdict.word = 'refused' if verdict.word == 'contracts only' else verdict.word
+    return verdict
 
 
 def try_definition(edit):

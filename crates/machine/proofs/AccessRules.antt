@@ -36,6 +36,8 @@ accesses =
     ∷ each (λ n. says (painted ++ (gcTo 5 0x10 ++ gcTo 4 n)) (cpu (cpuRead 0xA0000 false) ∷ cpu (cpuRead 0xA0001 false) ∷ [])) (0 ∷ 1 ∷ 2 ∷ 3 ∷ [])
     -- writes under GC odd/even: planes 0 and 2, or 1 and 3 with a0
     ∷ tops (painted ++ (gcTo 5 0x10 ++ (cpu (cpuWrite 0xA0000 false 0xFF) ∷ cpu (cpuWrite 0xA0001 false 0xFF) ∷ [])))
+    -- each mode under the sequencer's odd/even: the same planes, by its mask
+    ∷ each (λ m. tops (painted ++ (seqTo 4 0 ++ (gcTo 5 m ++ (cpu (cpuRead 0xA0000 false) ∷ cpu (cpuWrite 0xA0000 false 0xFF) ∷ cpu (cpuWrite 0xA0001 false 0xFF) ∷ []))))) (0 ∷ 1 ∷ 2 ∷ [])
     -- each mode through Map Mask 6, sequential and under GC odd/even; each mode under chain-four: plane 1 alone, at 0
     ∷ each (λ m. tops (painted ++ (seqTo 2 6 ++ (gcTo 5 m ++ (cpu (cpuRead 0xA0000 false) ∷ cpu (cpuWrite 0xA0001 false 0xFF) ∷ []))))) (0 ∷ 1 ∷ 2 ∷ 0x10 ∷ 0x11 ∷ 0x12 ∷ [])
     ∷ each (λ m. tops (painted ++ (seqTo 4 12 ++ (gcTo 5 m ++ (cpu (cpuRead 0xA0001 false) ∷ cpu (cpuWrite 0xA0001 false 0xFF) ∷ []))))) (0 ∷ 1 ∷ 2 ∷ [])
@@ -62,6 +64,7 @@ accessesSaid =
     ∷ (0 ∷ 0x11 ∷ 0 ∷ 0x22 ∷ 0 ∷ 0x44 ∷ 0 ∷ 0x88 ∷ [])
     ∷ (0 ∷ 0x11 ∷ 0 ∷ 2 ∷ 0 ∷ 0x11 ∷ 0 ∷ 2 ∷ 0 ∷ 0x44 ∷ 0 ∷ 8 ∷ 0 ∷ 0x44 ∷ 0 ∷ 8 ∷ [])
     ∷ (0xFF ∷ 1 ∷ 0x22 ∷ 0xFF ∷ 0xFF ∷ 4 ∷ 0x88 ∷ 0xFF ∷ [])
+    ∷ ((0xFF ∷ 1 ∷ 0x22 ∷ 0xFF ∷ 0xFF ∷ 4 ∷ 0x88 ∷ 0xFF ∷ []) ++ ((0x11 ∷ 1 ∷ 0x22 ∷ 0x22 ∷ 0x44 ∷ 4 ∷ 0x88 ∷ 0x88 ∷ []) ++ (0xFF ∷ 1 ∷ 0x22 ∷ 0xFF ∷ 0xFF ∷ 4 ∷ 0x88 ∷ 0xFF ∷ [])))
     ∷ ((0x11 ∷ 1 ∷ 0x22 ∷ 0xFF ∷ 0x44 ∷ 0xFF ∷ 0x88 ∷ 8 ∷ [])
     ++ ((0x11 ∷ 1 ∷ 0x22 ∷ 0x22 ∷ 0x44 ∷ 0x44 ∷ 0x88 ∷ 8 ∷ [])
     ++ ((0x11 ∷ 1 ∷ 0x22 ∷ 0xFF ∷ 0x44 ∷ 0xFF ∷ 0x88 ∷ 8 ∷ [])

@@ -61,6 +61,9 @@ registers =
     ∷ says (seqTo 2 15) (sequencer seqPollClockChange ∷ [])
     -- Clocking Mode 1, 0, 9, 8: (divisor, clock) is (1,8), (1,9), (2,16), (2,18)
     ∷ each (λ x. says (seqTo 1 x) (sequencer seqClock ∷ []) ++ divides (seqTo 1 x)) (1 ∷ 0 ∷ 9 ∷ 8 ∷ [])
+    -- what the mark's two calls and writes to other registers leave alone
+    ∷ seqHolds (seqAll 1 8 6 7 9 ++ (sequencer seqSetClockChangePending ∷ sequencer seqPollClockChange ∷ []))
+    ∷ (says (seqAll 1 8 6 7 9) (sequencer seqSetClockChangePending ∷ sequencer seqPollClockChange ∷ sequencer seqClock ∷ sequencer seqReadAddress ∷ sequencer seqReadData ∷ []) ++ divides (seqAll 1 8 6 7 9 ++ (sequencer seqSetClockChangePending ∷ sequencer seqPollClockChange ∷ [])))
     -- the sequencer's reset restores its start
     ∷ (says (seqTo 1 9) (sequencer seqReset ∷ sequencer seqClock ∷ sequencer seqPollClockChange ∷ sequencer seqReadAddress ∷ sequencer seqReadData ∷ []) ++ divides (seqTo 1 9 ++ (sequencer seqReset ∷ [])))
     ∷ []
@@ -83,6 +86,8 @@ registersSaid =
     ∷ (0 ∷ 1 ∷ 0 ∷ 0 ∷ 0 ∷ 0 ∷ 0 ∷ 1 ∷ [])
     ∷ (0 ∷ 0 ∷ [])
     ∷ (0 ∷ 8 ∷ 1 ∷ 0 ∷ 9 ∷ 1 ∷ 0 ∷ 16 ∷ 2 ∷ 0 ∷ 18 ∷ 2 ∷ [])
+    ∷ (0 ∷ 1 ∷ 0 ∷ 8 ∷ 0 ∷ 6 ∷ 0 ∷ 7 ∷ 0 ∷ 9 ∷ [])
+    ∷ (0 ∷ 0 ∷ 0 ∷ 1 ∷ 0 ∷ 18 ∷ 0 ∷ 4 ∷ 0 ∷ 9 ∷ 2 ∷ [])
     ∷ (0 ∷ 0 ∷ 0 ∷ 9 ∷ 0 ∷ 0 ∷ 0 ∷ 0 ∷ 0 ∷ 0 ∷ 1 ∷ [])
     ∷ []
 
