@@ -1,5 +1,6 @@
 """The command line of the sweep: which edits, in which order, tried and written down."""
 import argparse
+import re
 import sys
 import time
 from collections import Counter
@@ -127,7 +128,7 @@ def one(options):
     print(f'{edit.path}:{edit.line}: {edit.context}\n{edit.told()}', flush=True)
     tries.prepare()
     verdict = tries.try_definition(edit) if area == 'specs' else tries.try_source(edit, area)
-    errors = [line[:600] for line in verdict.output.split('\n') if 'error' in line or 'not proved' in line]
+    errors = [line[:600] for line in verdict.output.split('\n') if re.search(r'error|: not proved$|: no proof', line) and 'was not admitted' not in line]
     print('\n'.join(errors[:20] + [f'{verdict.word} {verdict.where}']))
 
 
