@@ -7,8 +7,6 @@ import time
 from pathlib import Path
 
 WORK = Path('target/sweep/work')
-# the crates whose contracts a definition of machine's is held to, in their order, and the one above them
-CODE = ['bits', 'machine', 'vram', 'sequencer', 'graphics_controller']
 SECONDS = 900
 
 
@@ -52,6 +50,16 @@ def uses(crate):
     return row.group(1).split()
 
 
+def below(crate):
+    """The crates of the repository under a crate, in the order of crates.txt."""
+    found, ahead = set(), [crate]
+    while ahead:
+        fresh = set(uses(ahead.pop())) - found
+        found |= fresh
+        ahead += fresh
+    return [name for name in re.findall(r'^(\w+):', Path('crates.txt').read_text(), re.M) if name in found]
+
+
 def whole(top):
     """A crate with every crate below it as source, in one run over one incremental folder: no library is built."""
     guide = subprocess.run(['rt', 'doc'], capture_output=True, text=True, check=True).stdout.strip()
@@ -60,7 +68,7 @@ def whole(top):
     folder = Path('target/inc-whole') / top
     (WORK / folder).mkdir(parents=True, exist_ok=True)
     words = [str(own / 'bin/rattle'), 'check', '--crate-name', top, f'crates/{top}/src/lib.rt', '--extern', f'std={own}/rlib/std.rlib']
-    for crate in uses(top):
+    for crate in below(top):
         words += ['--lib', f'{crate}:{",".join(["std", *uses(crate)])}=crates/{crate}/src/lib.rt']
     words += ['-L', f'dependency={own}/rlib', '--antt-project', str(kit / 'logic/antt-project.json')]
     return run(words + ['--logic-built', str(own / 'logic-built'), '--incremental', str(folder)])
