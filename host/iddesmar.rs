@@ -1,5 +1,5 @@
 //! Iddesmar for Rust: MartyPC's VGA video memory, proved, behind a safe face with MartyPC's own names. `mod iddesmar;` and link
-//! target/staticlib/libhost.a (x86-64 Linux): `rustc -L target/staticlib ..`. host/README.md has the rest.
+//! target/staticlib/libhost.a (x86-64 Linux): `rustc --edition 2021 -L target/staticlib ..`. host/README.md has the rest.
 //!
 //! Every call takes any input; what it refuses is an `Err` with the reason, and then nothing has changed. The library is handed slices that Rust
 //! itself has borrowed, each with its own length, so no call can reach outside them.
