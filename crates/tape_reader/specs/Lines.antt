@@ -7,6 +7,7 @@ use Rattle.tape_records.specs.declared.records.Operation.{Operation}
 use Rattle.tape_records.specs.declared.records.Operation.the-variants.{Unread, Was}
 use Rattle.tape_reader.specs.Text.{decimalOf, fieldOf, hexOf}
 
+-- "operation (`-` if unread)": its number, and a blank behind it
 unfoldable pub nameOf : Operation → List ℕ
 nameOf Unread = 45 ∷ 32 ∷ []
 nameOf (Was n) = fieldOf n

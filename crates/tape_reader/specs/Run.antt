@@ -38,11 +38,13 @@ recordsAfter skip [] = []
 recordsAfter (suc skip) (b ∷ s) = recordsAfter skip s
 recordsAfter zero (b ∷ s) = more (recordOf (b ∷ s)) (λ n. recordsAfter n s)
 
+-- the records of a whole tape: none of its bytes belongs to a record before
 unfoldable pub recordsOf : List ℕ → List Record
 recordsOf tape = recordsAfter 0 tape
 
 -- ---- one record
 
+-- "Operations: 0 reset both; 1, 2 GC address, data; 3, 4 sequencer address, data; 5 read; 6 write; 7 peek; 8 show"
 abbrev pub operationNumber : Command → ℕ
 operationNumber Reset = 0
 operationNumber (GcAddress x) = 1
@@ -72,10 +74,12 @@ left s (Broken o f) = s
 
 -- ---- the whole run
 
+-- "Each line": of each record in turn, numbered from k on, each finding the machine as the one before left it
 unfoldable pub linesOf : ℕ → State → List Record → List ℕ
 linesOf k s [] = []
 linesOf k s (r ∷ rs) = recordLine k s r ++ linesOf (k + 1) (left s r) rs
 
+-- the state that the records leave
 unfoldable pub ending : State → List Record → State
 ending s [] = s
 ending s (r ∷ rs) = ending (left s r) rs
@@ -86,6 +90,7 @@ pub record Outcome : Type 0 where
   pub memory : Memory
   pub out : List ℕ
 
+-- .. put together
 abbrev pub outcome : Ran → Memory → List ℕ → Outcome
 outcome r m o = record { ran = r; memory = m; out = o }
 
@@ -93,6 +98,7 @@ outcome r m o = record { ran = r; memory = m; out = o }
 abbrev pub endedOf : ℕ → GraphicsController → Sequencer → Ran
 endedOf n g s = record { answer = Done; written = n; gc = g; seq = s }
 
+-- .. and any run: its answer, the bytes written, the records of the state that it leaves
 abbrev pub ranTo : DoneAnswer → ℕ → State → Ran
 ranTo a n s = record { answer = a; written = n; gc = s .gc; seq = s .seq }
 

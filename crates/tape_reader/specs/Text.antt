@@ -29,12 +29,15 @@ hexDigits = 48 ∷ 49 ∷ 50 ∷ 51 ∷ 52 ∷ 53 ∷ 54 ∷ 55 ∷ 56 ∷ 57 �
 unfoldable pub hexOf : ℕ → ℕ
 hexOf x = getD hexDigits (x % 16) 48
 
+-- "eight hexadecimal digits for an accepted show": two of them ..
 abbrev pub hexTwo : ℕ → ℕ → List ℕ
 hexTwo a b = hexOf a ∷ hexOf b ∷ []
 
+-- .. four ..
 abbrev pub hexFour : ℕ → ℕ → ℕ → ℕ → List ℕ
 hexFour a b c d = hexTwo a b ++ hexTwo c d
 
+-- .. all eight, the first pixel first
 abbrev pub hexEight : Eight → List ℕ
 hexEight x = hexFour (x .a) (x .b) (x .c) (x .d) ++ hexFour (x .e) (x .f) (x .g) (x .h)
 

@@ -20,9 +20,11 @@ use Rattle.tape_records.specs.Numbers.{limit32, numberOf}
 abbrev pub byte : ℕ
 byte = 255
 
+-- .. of a page
 abbrev pub page : ℕ
 page = 1
 
+-- .. of an address or an offset: "at most 2^32 - 1"
 abbrev pub number : ℕ
 number = limit32 - 1
 
