@@ -1,11 +1,9 @@
-// What an access works out before memory is touched: addresses, planes, bytes and counters. No function here is handed memory.
-mod address;
+// What an access works out before memory is touched: planes, bytes and counters. No function here is handed memory.
 mod compare;
 mod count;
 mod select;
 mod write_path;
 
-pub use address::judge_address;
 pub use compare::pixel_op_compare;
 pub use count::counted_read;
 pub use count::counted_write;

@@ -21,7 +21,8 @@ use Rattle.machine.specs.declared.graphics.MemoryMap.{MemoryMap}
 use Rattle.machine.specs.declared.graphics.ReadMode.{ReadMode}
 use Rattle.machine.specs.declared.graphics.ReadMode.the-variants.{ReadSelectedPlane, ReadComparedPlanes}
 use Rattle.machine.specs.declared.sequencer.Sequencer.{Sequencer}
-use Rattle.machine.specs.Memory.{Memory, Shape, shape, sound}
+use Rattle.machine.specs.declared.shape.Shape.{Shape}
+use Rattle.machine.specs.Memory.{Memory, shape, sound}
 use Rattle.machine.specs.Answers.{refusalNumber, Value, one, two, blank, Said, said, part, Outcome, outcome, answered, mappedSaid}
 use Rattle.machine.specs.Graphics.{fitsGc, memoryMap, chained, oddEven, isOddEven, readMode, writeMode, shiftMode, gcOf}
 use Rattle.machine.specs.Sequencer.{fitsSeq}
@@ -31,8 +32,8 @@ use Rattle.machine.specs.Deeds.{byte, latch, loaded, latchesAfter, memoryAfter,
 use Rattle.machine.specs.Calls.{refuse, fitsBoth, accessNumber, shows, showNumber, CpuPlan, counted, readCounter, writeCounter, readReply, writeDeed, cpuPlan, cpuRead, cpuPeek, cpuWrite, serialize}
 use Rattle.machine.specs.Step.{device, lifted, cpuPerform, cpuStep}
 use Rattle.machine.proofs.Laws.{both, refuse-0, sound-shaped, AtOffset, answered-refused}
-use Rattle.graphics_controller.proofs.Held.{map-select-fits}
-use Rattle.data_path.proofs.Windows.{left}
+use Rattle.judges.proofs.Held.{map-select-fits}
+use Rattle.judges.proofs.Windows.{left}
 use Rattle.graphics_controller.specs.Reads.{readByte}
 
 -- ---- what an answer says of an address
@@ -157,16 +158,17 @@ module _ (g : GraphicsController) (s : Sequencer) (m : Memory) (x : ℕ) (page :
   read-refused k h e = cpu-refused (cpuPlan (g .registers) s (shape m) (cpuRead x page)) g m k (one 0) h e (read-blank (readMode (g .registers)) (g .registers) x at _ _)
 
   -- latches loaded, one counter raised, and the answer from them
-  pub read-done : (o : ℕ) (w : ReadMode) (c : GraphicsControllerStats) (l : List ℕ) (y : ℕ) → 0 ≡ number → o ≡ at → w ≡ readMode (g .registers)
-      → c ≡ counted (readCounter w) (g .stats) → l ≡ loaded m o → y ≡ readByte w (g .registers) x l
-      → outcome (said 0 (one y)) (device (gcOf (g .registers) c l) m) ≡ cpuStep g s m (cpuRead x page)
+  pub read-done : (o : ℕ) (l : List ℕ) (a : Said) (g′ : GraphicsController) → 0 ≡ number → o ≡ at → l ≡ loaded m o
+      → outcome a g′ ≡ outcome (said 0 (one (readByte (readMode (g .registers)) (g .registers) x l))) (gcOf (g .registers) (counted (readCounter (readMode (g .registers))) (g .stats)) l)
+      → outcome a (device g′ m) ≡ cpuStep g s m (cpuRead x page)
   unfolding cpuStep cpuPlan latchesAfter memoryAfter
-  read-done o w c l y e eo ew ec el ey =
+  read-done o l a g′ e eo el ea =
       let f : g .registers .«read_map_select» ≤ 3 = map-select-fits (g .registers) (access-fits (g .registers) s (shape m) x page e .0) in
       let v : l ≡ loaded m at = el ∙ ap (loaded m) eo in
-      cpu-done (cpuPlan (g .registers) s (shape m) (cpuRead x page)) g m (gcOf (g .registers) c l) m (one y) e
-      (rw (ec, ew, v)) refl
-      (rw (ey, ew, v) (read-value (readMode (g .registers)) (g .registers) m at x f))
+      ap (lifted (λ (g : GraphicsController). device g m)) ea
+      ∙ cpu-done (cpuPlan (g .registers) s (shape m) (cpuRead x page)) g m _ m _ e
+      (ap (gcOf (g .registers) (counted (readCounter (readMode (g .registers))) (g .stats))) v) refl
+      (rw v (read-value (readMode (g .registers)) (g .registers) m at x f))
 
   pub peek-refused : (k : ℕ) → 0 < k → k ≡ number → outcome (said k (one 0)) (device g m) ≡ cpuStep g s m (cpuPeek x page)
   unfolding cpuStep cpuPlan valueOf

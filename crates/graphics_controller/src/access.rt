@@ -4,18 +4,19 @@ ghost use Prim.Native.Nat.{_<_, _≤_};
 ghost use lib.ListN.{length};
 ghost use Rattle.machine.specs.Memory.{lent, before, after, Shaped};
 ghost use Rattle.machine.specs.Answers.{said, one, outcome, byteSaid, storeSaid};
-ghost use Rattle.machine.specs.Graphics.{gcOf, writeMode};
+ghost use Rattle.machine.specs.Graphics.{gcOf, readMode, writeMode};
 ghost use Rattle.machine.specs.Deeds.{loaded};
-ghost use Rattle.machine.specs.Calls.{counted, writeCounter, cpuRead, cpuPeek, cpuWrite};
+ghost use Rattle.machine.specs.Calls.{counted, readCounter, writeCounter, cpuRead, cpuPeek, cpuWrite};
 ghost use Rattle.machine.specs.Step.{device, cpuStep};
 ghost use Rattle.graphics_controller.specs.Reads.{readByte};
-use crate::inner;
 use crate::visit::write_planes;
 use data_path::counted_read;
 use data_path::counted_write;
-use data_path::judge_address;
 use data_path::pixel_op_compare;
 use data_path::selected_plane;
+use judges::fits_both;
+use judges::judge_address;
+use judges::shaped;
 use machine::ByteAnswer;
 use machine::CpuByte;
 use machine::CpuStore;
@@ -24,6 +25,7 @@ use machine::GraphicsRegisters;
 use machine::MappedAnswer;
 use machine::ReadMode;
 use machine::Sequencer;
+use machine::Shape;
 use machine::StoreAnswer;
 
 // The four planes' bytes at an offset.
@@ -50,6 +52,26 @@ fn read_byte(mode: ReadMode, registers: GraphicsRegisters, latches: [u8; 4], add
     }
 }
 
+// The answer of an accepted read, from the latches that it loaded: its mode's counter goes up, registers stay.
+fn read_done(gc: GraphicsController, latches: [u8; 4], address: usize) -> CpuByte
+    requires { ⌜ gc .registers .«read_map_select» ≤ 3 ⌝ }
+    ensures { λ r. ⌜ outcome (byteSaid (r .answer)) (r .gc) ≡ outcome (said 0 (one (readByte (readMode (gc .registers)) (gc .registers) address latches))) (gcOf (gc .registers) (counted (readCounter (readMode (gc .registers))) (gc .stats)) latches) ⌝ }
+{
+    let registers = gc.registers;
+    let mode = registers.read_mode();
+    let byte = read_byte(mode, registers, latches, address);
+    let stats = counted_read(mode, gc.stats);
+    let next = GraphicsController {
+        registers,
+        stats,
+        latches,
+    };
+    CpuByte {
+        answer: ByteAnswer::Done(byte),
+        gc: next,
+    }
+}
+
 // A read by the processor: it loads all four latches, whichever plane is asked for.
 pub fn cpu_read_u8(
     gc: GraphicsController,
@@ -65,11 +87,18 @@ pub fn cpu_read_u8(
     ensures { λ r. ⌜ outcome (byteSaid (r .answer)) (device (r .gc) (before p0 p1 p2 p3 picture)) ≡ cpuStep gc seq (before p0 p1 p2 p3 picture) (cpuRead address page) ⌝ }
 {
     let registers = gc.registers;
-    let fits = inner::fits_both(registers, seq);
-    let shaped = planes::inner::shaped(p0, p1, p2, p3, picture);
+    let shape = Shape {
+        p0: p0.len(),
+        p1: p1.len(),
+        p2: p2.len(),
+        p3: p3.len(),
+        picture: picture.len(),
+    };
+    let fits = fits_both(registers, seq);
+    let good = shaped(shape);
     let map = registers.memory_map();
     let chain = registers.chain_odd_even();
-    match judge_address(fits, shaped, map, chain, p0.len(), address, page) {
+    match judge_address(fits, good, map, chain, shape.p0, address, page) {
         MappedAnswer::Refused(x) => CpuByte {
             answer: ByteAnswer::Refused(x),
             gc,
@@ -77,18 +106,7 @@ pub fn cpu_read_u8(
         MappedAnswer::Done(offset, _) => {
             let at = offset.0;
             let latches = load(p0, p1, p2, p3, picture, at);
-            let mode = registers.read_mode();
-            let byte = read_byte(mode, registers, latches, address);
-            let stats = counted_read(mode, gc.stats);
-            let next = GraphicsController {
-                registers,
-                stats,
-                latches,
-            };
-            CpuByte {
-                answer: ByteAnswer::Done(byte),
-                gc: next,
-            }
+            read_done(gc, latches, address)
         }
     }
 }
@@ -108,11 +126,18 @@ pub fn cpu_peek_u8(
     ensures { λ r. ⌜ outcome (byteSaid r) (device gc (before p0 p1 p2 p3 picture)) ≡ cpuStep gc seq (before p0 p1 p2 p3 picture) (cpuPeek address page) ⌝ }
 {
     let registers = gc.registers;
-    let fits = inner::fits_both(registers, seq);
-    let shaped = planes::inner::shaped(p0, p1, p2, p3, picture);
+    let shape = Shape {
+        p0: p0.len(),
+        p1: p1.len(),
+        p2: p2.len(),
+        p3: p3.len(),
+        picture: picture.len(),
+    };
+    let fits = fits_both(registers, seq);
+    let good = shaped(shape);
     let map = registers.memory_map();
     let chain = registers.chain_odd_even();
-    match judge_address(fits, shaped, map, chain, p0.len(), address, page) {
+    match judge_address(fits, good, map, chain, shape.p0, address, page) {
         MappedAnswer::Refused(x) => ByteAnswer::Refused(x),
         MappedAnswer::Done(offset, _) => {
             let at = offset.0;
@@ -122,7 +147,7 @@ pub fn cpu_peek_u8(
 }
 
 // The answer of an accepted write: its mode's counter goes up, registers and latches stay.
-fn wrote(gc: GraphicsController) -> CpuStore
+fn write_done(gc: GraphicsController) -> CpuStore
     ensures { λ r. ⌜ outcome (storeSaid (r .answer)) (r .gc) ≡ outcome (said 0 (one 0)) (gcOf (gc .registers) (counted (writeCounter (writeMode (gc .registers))) (gc .stats)) (gc .latches)) ⌝ }
 {
     let registers = gc.registers;
@@ -155,11 +180,18 @@ pub fn cpu_write_u8(
     ensures { λ r. ⌜ outcome (storeSaid (r .answer)) (device (r .gc) (after p0 p1 p2 p3 picture)) ≡ cpuStep gc seq (before p0 p1 p2 p3 picture) (cpuWrite address page byte) ⌝ }
 {
     let registers = gc.registers;
-    let fits = inner::fits_both(registers, seq);
-    let shaped = planes::inner::shaped(p0, p1, p2, p3, picture);
+    let shape = Shape {
+        p0: p0.len(),
+        p1: p1.len(),
+        p2: p2.len(),
+        p3: p3.len(),
+        picture: picture.len(),
+    };
+    let fits = fits_both(registers, seq);
+    let good = shaped(shape);
     let map = registers.memory_map();
     let chain = registers.chain_odd_even();
-    match judge_address(fits, shaped, map, chain, p0.len(), address, page) {
+    match judge_address(fits, good, map, chain, shape.p0, address, page) {
         MappedAnswer::Refused(x) => CpuStore {
             answer: StoreAnswer::Refused(x),
             gc,
@@ -167,7 +199,7 @@ pub fn cpu_write_u8(
         MappedAnswer::Done(offset, a0) => {
             let at = offset.0;
             write_planes(gc, seq, p0, p1, p2, p3, picture, at, a0, address, byte);
-            wrote(gc)
+            write_done(gc)
         }
     }
 }

@@ -1,23 +1,20 @@
-// The graphics controller: its ports, the way from an address to a plane offset, the processor's accesses and the show.
+// The graphics controller: the processor's accesses and the show, and its registers, which have no memory (`graphics_registers`).
 mod access;
-mod address;
-pub mod inner;
-mod registers;
 mod show;
 mod visit;
 
 pub use access::cpu_peek_u8;
 pub use access::cpu_read_u8;
 pub use access::cpu_write_u8;
-pub use address::map_address;
-pub use registers::chain;
-pub use registers::chain4;
-pub use registers::memory_map;
-pub use registers::odd_even;
-pub use registers::read_address;
-pub use registers::read_data;
-pub use registers::reset;
-pub use registers::shift_mode;
-pub use registers::write_address;
-pub use registers::write_data;
+pub use graphics_registers::chain;
+pub use graphics_registers::chain4;
+pub use graphics_registers::map_address;
+pub use graphics_registers::memory_map;
+pub use graphics_registers::odd_even;
+pub use graphics_registers::read_address;
+pub use graphics_registers::read_data;
+pub use graphics_registers::reset;
+pub use graphics_registers::shift_mode;
+pub use graphics_registers::write_address;
+pub use graphics_registers::write_data;
 pub use show::serialize;

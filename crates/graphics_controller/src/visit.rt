@@ -18,6 +18,7 @@ use machine::GraphicsController;
 use machine::GraphicsRegisters;
 use machine::Sequencer;
 use machine::WriteMode;
+use planes::PlaneStore;
 
 // The planes that are stored, as four bits: visited, and let through by the mask.
 fn stored_planes(
@@ -30,7 +31,7 @@ fn stored_planes(
     requires { ⌜ (fitsSeq seq ≡ true) × (a0 ≡ bit0 address) ⌝ }
     ensures { λ r. ⌜ r ≡ storesTo registers seq address at ⌝ }
 {
-    visited(registers, address) & sequencer::inner::mask(seq, at, a0)
+    visited(registers, address) & sequencer_registers::inner::mask(seq, at, a0)
 }
 
 // One plane's visit: its byte laid where it is stored, and no pixel moved.
@@ -49,7 +50,17 @@ fn visit_plane(
     ensures { λ _. ⌜ after p0 p1 p2 p3 picture ≡ pick (isOne (bit plane planes)) (laid at (λ q. eqb q plane) (λ q. latch bytes plane) (before p0 p1 p2 p3 picture)) (before p0 p1 p2 p3 picture) ⌝ }
 {
     if planes & (1 << plane) != 0 {
-        planes::inner::lay(p0, p1, p2, p3, picture, plane, at, bytes[plane]);
+        planes::inner::lay(
+            p0,
+            p1,
+            p2,
+            p3,
+            picture,
+            plane,
+            at,
+            PlaneStore::Set,
+            bytes[plane],
+        );
     }
 }
 
@@ -100,7 +111,7 @@ pub fn write_planes(
     }
     let latches = gc.latches;
     let bytes = written(mode, registers, latches, byte);
-    let place = sequencer::inner::stored_at(seq, at);
+    let place = sequencer_registers::inner::stored_at(seq, at);
     visit(p0, p1, p2, p3, picture, planes, bytes, place);
     planes::inner::remake(p0, p1, p2, p3, picture, place);
 }

@@ -13,7 +13,8 @@ use Rattle.machine.specs.declared.graphics.WriteMode.the-variants.{Mode0
 use Rattle.machine.specs.declared.graphics.ReadMode.{ReadMode}
 use Rattle.machine.specs.declared.graphics.ReadMode.the-variants.{ReadSelectedPlane, ReadComparedPlanes}
 use Rattle.machine.specs.declared.sequencer.Sequencer.{Sequencer}
-use Rattle.machine.specs.Memory.{Shape, shape}
+use Rattle.machine.specs.declared.shape.Shape.{Shape}
+use Rattle.machine.specs.Memory.{shape}
 use Rattle.machine.specs.Answers.{Value, answered}
 use Rattle.machine.specs.Graphics.{readMode, writeMode}
 use Rattle.machine.specs.Calls.{GraphicsCall, gcReset, gcChain, gcChain4, gcMemoryMap, gcOddEven, gcShiftMode, gcReadAddress, gcReadData, gcWriteAddress, gcWriteData, gcMapAddress, gcNumberOf, gcValue, gcNext}

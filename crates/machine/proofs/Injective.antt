@@ -32,7 +32,19 @@ use Rattle.machine.specs.declared.graphics.OddEvenModeComplement.{OddEve
 use Rattle.machine.specs.declared.graphics.OddEvenModeComplement.the-variants.{Sequential, OddEven}
 use Rattle.machine.specs.declared.graphics.ShiftMode.{ShiftMode}
 use Rattle.machine.specs.declared.graphics.ShiftMode.the-variants.{Standard, CGACompatible, Chain4, Unused}
-use Rattle.machine.specs.Answers.{refusalNumber, Value, one, two, pixel, part, Said, byteSaid, pixelSaid, storeSaid, doneSaid, flagSaid, clockSaid, mapSaid, oddEvenSaid, shiftSaid, mappedSaid}
+use Rattle.machine.specs.Answers.{refusalNumber, Value, one, two, pixel, part, pixelsOf, Said, Outcome, outcome, byteSaid, pixelSaid, storeSaid, doneSaid, flagSaid, clockSaid, mapSaid, oddEvenSaid, shiftSaid, mappedSaid}
+
+-- two outcomes that are the machine's are one: the same is said, and the same is left
+module _ {S : Type 0} {a b : Said} {s t : S} {o : Outcome S} (p : outcome a s ≡ o) (q : outcome b t ≡ o) where
+  pub answer-of : a ≡ b
+  answer-of = ap (λ (o : Outcome S). o .answer) (p ∙ sym q)
+
+  pub next-of : s ≡ t
+  next-of = ap (λ (o : Outcome S). o .next) (p ∙ sym q)
+
+  -- of two shows: their pixels
+  pub pixels-of : pixelsOf (a .value) ≡ pixelsOf (b .value)
+  pixels-of = ap (λ (s : Said). pixelsOf (s .value)) answer-of
 
 -- what has a way back tells its arguments apart
 injective : {A B : Type 0} (f : A → B) (back : B → A) → ((a : A) → back (f a) ≡ a) → (a b : A) → f a ≡ f b → a ≡ b

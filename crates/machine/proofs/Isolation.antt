@@ -15,7 +15,8 @@ use Rattle.machine.specs.declared.graphics.GraphicsRegisters.{GraphicsRe
 use Rattle.machine.specs.declared.graphics.ReadMode.{ReadMode}
 use Rattle.machine.specs.declared.graphics.ReadMode.the-variants.{ReadSelectedPlane, ReadComparedPlanes}
 use Rattle.machine.specs.declared.sequencer.Sequencer.{Sequencer}
-use Rattle.machine.specs.Memory.{Memory, plane, planes, Shape, shape}
+use Rattle.machine.specs.declared.shape.Shape.{Shape}
+use Rattle.machine.specs.Memory.{Memory, plane, planes, shape}
 use Rattle.machine.specs.Answers.{Value, blank, Outcome, answered}
 use Rattle.machine.specs.Graphics.{gcOf, readMode, withAddress, withData}
 use Rattle.machine.specs.Address.{offset}
@@ -157,7 +158,7 @@ module _ (k : ℕ) where
         go false = a
 
     shape-same : shape m ≡ shape n
-    shape-same = ap₂ (λ b p. record { bytes = b; pixels = p }) (fun-ext (a .lengths)) (both-length (a .pictures))
+    shape-same = rw (a .lengths 0, a .lengths 1, a .lengths 2, a .lengths 3, both-length (a .pictures)) refl
 
     module _ (l u : List ℕ) (v : AlikeLatches k l u) where
       stored-byte-same : (o : ℕ) (f g : ℕ → ℕ → ℕ → ℕ → ℕ) → ((p : ℕ) → p ≢ k → (i l x : ℕ) → f p i l x ≡ g p i l x)

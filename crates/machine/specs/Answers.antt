@@ -62,6 +62,13 @@ blank (two x y) = two 0 0
 blank (pixel x) = pixel 0
 blank (part l) = part []
 
+-- the pixels that a show hands back; no other value has any
+abbrev pub pixelsOf : Value → List ℕ
+pixelsOf (one x) = []
+pixelsOf (two x y) = []
+pixelsOf (pixel x) = []
+pixelsOf (part l) = l
+
 -- an answer: 0 or a refusal's number, and its value
 pub record Said : Type 0 where
   pub number : ℕ

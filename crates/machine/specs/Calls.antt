@@ -13,7 +13,8 @@ use Rattle.machine.specs.declared.graphics.WriteMode.the-variants.{Mode0
 use Rattle.machine.specs.declared.graphics.ShiftMode.{ShiftMode}
 use Rattle.machine.specs.declared.graphics.ShiftMode.the-variants.{Standard, CGACompatible, Chain4, Unused}
 use Rattle.machine.specs.declared.sequencer.Sequencer.{Sequencer}
-use Rattle.machine.specs.Memory.{Shape, size, sound}
+use Rattle.machine.specs.declared.shape.Shape.{Shape}
+use Rattle.machine.specs.Memory.{size, sound}
 use Rattle.machine.specs.Answers.{Value, one, two, mapNumber, oddEvenNumber, shiftNumber}
 use Rattle.machine.specs.Graphics.{withAddress, withData, dataOf, fitsGc, writeMode, readMode, oddEven, shiftMode, chained, memoryMap, gcOf, freshGc}
 use Rattle.machine.specs.Sequencer.{withSeqAddress, withSeqData, seqDataOf, withMark, fitsSeq, inMask, storedAt, gcReadAt, freshSeq}
@@ -44,9 +45,13 @@ planeNumber h p o = refuse (sound h) 1 (refuse (leb p 3) 4 (checkOffset h o))
 unfoldable pub placeNumber : Shape → ℕ → ℕ
 placeNumber h j = refuse (sound h) 1 (refuse (ltb j (8 * size h)) 5 0)
 
--- 1, 5: a shown offset is n or more
+-- 5: a shown offset is n or more
+abbrev pub checkShown : Shape → ℕ → ℕ
+checkShown h o = refuse (ltb o (size h)) 5 0
+
+-- 1, 5, of a show
 unfoldable pub shownNumber : Shape → ℕ → ℕ
-shownNumber h o = refuse (sound h) 1 (refuse (ltb o (size h)) 5 0)
+shownNumber h o = refuse (sound h) 1 (checkShown h o)
 
 -- ---- calls on memory alone (vram.rs)
 
@@ -251,7 +256,7 @@ shows Unused = true
 
 -- 6, 1, 9, 5
 unfoldable pub showNumber : GraphicsRegisters → Sequencer → Shape → ℕ → ℕ
-showNumber r s h o = refuse (fitsBoth r s) 6 (refuse (sound h) 1 (refuse (shows (shiftMode r)) 9 (refuse (ltb o (size h)) 5 0)))
+showNumber r s h o = refuse (fitsBoth r s) 6 (refuse (sound h) 1 (refuse (shows (shiftMode r)) 9 (checkShown h o)))
 
 -- a plan, and the counter that an accepted access raises
 pub record CpuPlan : Type 0 where
@@ -298,11 +303,15 @@ unfoldable pub readReply : ReadMode → GraphicsRegisters → ℕ → ℕ → Re
 readReply ReadSelectedPlane r x o = byteAt (selectedPlane r x) o
 readReply ReadComparedPlanes r x o = compare (r .«color_dont_care») (r .«color_compare»)
 
--- a visited plane is stored only if the mask has it; mode 3 only counts
+-- a visited plane is stored only if the mask has it
+abbrev pub storeVisited : WriteMode → GraphicsRegisters → Sequencer → ℕ → ℕ → ℕ → Deed
+storeVisited w r s x o v = store (storedAt s o) (λ p. visits r x p && inMask s o (a0 x) p) (λ p i l old. writtenBit w r v p i l)
+
+-- modes 0, 1 and 2 store; mode 3 only counts
 unfoldable pub writeDeed : WriteMode → GraphicsRegisters → Sequencer → ℕ → ℕ → ℕ → Deed
-writeDeed Mode0 r s x o v = store (storedAt s o) (λ p. visits r x p && inMask s o (a0 x) p) (λ p i l old. writtenBit Mode0 r v p i l)
-writeDeed Mode1 r s x o v = store (storedAt s o) (λ p. visits r x p && inMask s o (a0 x) p) (λ p i l old. writtenBit Mode1 r v p i l)
-writeDeed Mode2 r s x o v = store (storedAt s o) (λ p. visits r x p && inMask s o (a0 x) p) (λ p i l old. writtenBit Mode2 r v p i l)
+writeDeed Mode0 r s x o v = storeVisited Mode0 r s x o v
+writeDeed Mode1 r s x o v = storeVisited Mode1 r s x o v
+writeDeed Mode2 r s x o v = storeVisited Mode2 r s x o v
 writeDeed Invalid r s x o v = rest
 
 -- the GC's peek: plane 0, no latch or counter moves

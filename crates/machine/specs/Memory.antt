@@ -7,6 +7,7 @@ use lib.Dec.{eqb, ltb, leb}
 use lib.ListN.{length}
 use denote.Ref.{RefT, now}
 use denote.Triple.Both.{Both}
+use Rattle.machine.specs.declared.shape.Shape.{Shape}
 
 -- the four planes and the picture, as lists of bytes
 pub record Memory : Type 0 where
@@ -32,23 +33,24 @@ plane m (suc (suc (suc (suc p)))) = []
 abbrev pub planes : (ℕ → List ℕ) → List ℕ → Memory
 planes f = mem (f 0) (f 1) (f 2) (f 3)
 
--- the lengths: all that a refusal may know of the memory
-pub record Shape : Type 0 where
-  pub bytes : ℕ → ℕ
-  pub pixels : ℕ
-
--- the lengths of a memory
+-- the lengths of a memory: all that a refusal may know of it
 abbrev pub shape : Memory → Shape
-shape m = record { bytes = λ p. length (plane m p); pixels = length (m .picture) }
+shape m = record {
+  p0 = length (m .p0);
+  p1 = length (m .p1);
+  p2 = length (m .p2);
+  p3 = length (m .p3);
+  picture = length (m .picture);
+}
 
 -- n, the bytes of a plane
 abbrev pub size : Shape → ℕ
-size h = h .bytes 0
+size h = h .p0
 
 -- not refusal 1: the plane lengths agree, n is from 1 to 65,536, and the picture is 8n long
 unfoldable pub sound : Shape → Bool
-sound h = ltb 0 (size h) && (leb (size h) 65536 && (eqb (h .bytes 1) (size h) && (eqb (h .bytes 2) (size h)
-    && (eqb (h .bytes 3) (size h) && eqb (h .pixels) (8 * size h)))))
+sound h = ltb 0 (size h) && (leb (size h) 65536 && (eqb (h .p1) (size h) && (eqb (h .p2) (size h)
+    && (eqb (h .p3) (size h) && eqb (h .picture) (8 * size h)))))
 
 -- the same as facts: what an inner function asks of its caller
 pub record Shaped (m : Memory) : Type 0 where

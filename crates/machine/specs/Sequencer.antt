@@ -134,7 +134,7 @@ storedAt s o = pick (chainFour s) (o / 4 * 4) o
 
 -- `gc_read_u8`: sequential with chain-four set reads at the offset with its low two bits clear, otherwise as it stands
 unfoldable pub gcReadAt : Sequencer → ℕ → ℕ
-gcReadAt s o = pick (isSeqOddEven (seqOddEven s)) o (pick (chainFour s) (o / 4 * 4) o)
+gcReadAt s o = pick (isSeqOddEven (seqOddEven s)) o (storedAt s o)
 
 -- ---- the record
 

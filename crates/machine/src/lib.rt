@@ -4,6 +4,7 @@ mod graphics;
 pub mod inner;
 mod place;
 mod sequencer;
+mod shape;
 
 pub use answer::ByteAnswer;
 pub use answer::ClockAnswer;
@@ -35,3 +36,4 @@ pub use place::PlaneOffset;
 pub use sequencer::OddEvenMode;
 pub use sequencer::Sequencer;
 pub use sequencer::SequencerRegister;
+pub use shape::Shape;

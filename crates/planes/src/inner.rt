@@ -1,135 +1,15 @@
-// What the crates above may call, and a host may not: the judges of refusals 1, 3, 4 and 5, and functions that ask something of their caller.
+// What the crates above may call, and a host may not: functions that ask something of their caller, who has judged planes and offset.
 ghost use mathlib.Core.Path.{_≡_};
 ghost use mathlib.Core.List.{[], _∷_};
 ghost use Prim.Native.Nat.{_+_, _*_, _<_, _≤_};
-ghost use lib.Dec.{eqb, ltb};
+ghost use lib.Dec.{eqb};
 ghost use lib.ListN.{length, getD};
 ghost use Rattle.bits.specs.Bit.{bit, ofBits};
-ghost use Rattle.machine.specs.Memory.{lent, before, after, shape, sound, Shaped};
-ghost use Rattle.machine.specs.Answers.{doneSaid, refusalNumber};
+ghost use Rattle.machine.specs.Memory.{lent, before, after, Shaped};
 ghost use Rattle.machine.specs.Deeds.{byte as byteOfPlane, laid, remade};
-ghost use Rattle.machine.specs.Calls.{refuse, planeNumber, offsetNumber, placeNumber, shownNumber};
-use machine::DoneAnswer;
-use machine::PixelPlace;
+ghost use Rattle.planes.specs.Stores.{combines};
+use crate::kind::PlaneStore;
 use machine::PlaneOffset;
-use machine::Refusal;
-
-// Not refusal 1: the plane lengths agree, n is from 1 to 65,536, and the picture is 8n long.
-pub fn shaped(p0: &[u8], p1: &[u8], p2: &[u8], p3: &[u8], picture: &[u8]) -> bool
-    ensures { λ r. ⌜ r ≡ sound (shape (before p0 p1 p2 p3 picture)) ⌝ }
-{
-    let n = p0.len();
-    if n == 0 {
-        return false;
-    }
-    if n > 65536 {
-        return false;
-    }
-    if p1.len() != n {
-        return false;
-    }
-    if p2.len() != n {
-        return false;
-    }
-    if p3.len() != n {
-        return false;
-    }
-    picture.len() == 8 * n
-}
-
-// Refusals 1, 4, 3: of a call that names a plane and an offset.
-pub fn judge_plane(
-    p0: &[u8],
-    p1: &[u8],
-    p2: &[u8],
-    p3: &[u8],
-    picture: &[u8],
-    plane: usize,
-    offset: PlaneOffset,
-) -> DoneAnswer
-    ensures { λ r. ⌜ doneSaid r .number ≡ planeNumber (shape (before p0 p1 p2 p3 picture)) plane (offset .0) ⌝ }
-{
-    let at = offset.0;
-    if !shaped(p0, p1, p2, p3, picture) {
-        return DoneAnswer::Refused(Refusal::Memory);
-    }
-    if plane > 3 {
-        return DoneAnswer::Refused(Refusal::Plane);
-    }
-    if at >= p0.len() {
-        return DoneAnswer::Refused(Refusal::Offset);
-    }
-    DoneAnswer::Done
-}
-
-// Refusal 1, and then the one given where the offset is n or more.
-fn judge_at(
-    p0: &[u8],
-    p1: &[u8],
-    p2: &[u8],
-    p3: &[u8],
-    picture: &[u8],
-    offset: PlaneOffset,
-    refusal: Refusal,
-) -> DoneAnswer
-    ensures { λ r. ⌜ doneSaid r .number ≡ refuse (sound (shape (before p0 p1 p2 p3 picture))) 1 (refuse (ltb (offset .0) (length (now (p0 .entry)))) (refusalNumber refusal) 0) ⌝ }
-{
-    if !shaped(p0, p1, p2, p3, picture) {
-        return DoneAnswer::Refused(Refusal::Memory);
-    }
-    if offset.0 < p0.len() {
-        return DoneAnswer::Done;
-    }
-    DoneAnswer::Refused(refusal)
-}
-
-// Refusals 1, 3: of a call that names an offset.
-pub fn judge_offset(
-    p0: &[u8],
-    p1: &[u8],
-    p2: &[u8],
-    p3: &[u8],
-    picture: &[u8],
-    offset: PlaneOffset,
-) -> DoneAnswer
-    ensures { λ r. ⌜ doneSaid r .number ≡ offsetNumber (shape (before p0 p1 p2 p3 picture)) (offset .0) ⌝ }
-{
-    judge_at(p0, p1, p2, p3, picture, offset, Refusal::Offset)
-}
-
-// Refusals 1, 5: of a show.
-pub fn judge_shown(
-    p0: &[u8],
-    p1: &[u8],
-    p2: &[u8],
-    p3: &[u8],
-    picture: &[u8],
-    offset: PlaneOffset,
-) -> DoneAnswer
-    ensures { λ r. ⌜ doneSaid r .number ≡ shownNumber (shape (before p0 p1 p2 p3 picture)) (offset .0) ⌝ }
-{
-    judge_at(p0, p1, p2, p3, picture, offset, Refusal::Place)
-}
-
-// Refusals 1, 5: of a call that names a pixel place.
-pub fn judge_place(
-    p0: &[u8],
-    p1: &[u8],
-    p2: &[u8],
-    p3: &[u8],
-    picture: &[u8],
-    place: PixelPlace,
-) -> DoneAnswer
-    ensures { λ r. ⌜ doneSaid r .number ≡ placeNumber (shape (before p0 p1 p2 p3 picture)) (place .0) ⌝ }
-{
-    if !shaped(p0, p1, p2, p3, picture) {
-        return DoneAnswer::Refused(Refusal::Memory);
-    }
-    if place.0 >= picture.len() {
-        return DoneAnswer::Refused(Refusal::Place);
-    }
-    DoneAnswer::Done
-}
 
 // A plane's byte.
 pub fn byte(
@@ -156,6 +36,17 @@ pub fn byte(
     p3[at]
 }
 
+// The byte that a store puts down, of the one given and the one that stands there.
+fn combined(kind: PlaneStore, x: u8, old: u8) -> u8
+    ensures { λ r. ⌜ r ≡ combines kind x old ⌝ }
+{
+    match kind {
+        PlaneStore::Set => x,
+        PlaneStore::And => x & old,
+        PlaneStore::Or => x | old,
+    }
+}
+
 // A byte laid into a plane; the picture stays as it was, for `remake` to follow once after several planes.
 pub fn lay(
     p0: &mut [u8],
@@ -165,24 +56,25 @@ pub fn lay(
     picture: &[u8],
     plane: usize,
     at: usize,
+    kind: PlaneStore,
     x: u8,
 )
     requires { ⌜ Shaped (lent p0 p1 p2 p3 picture) × ((at < length (now p0)) × (plane ≤ 3)) ⌝ }
-    ensures { λ _. ⌜ after p0 p1 p2 p3 picture ≡ laid at (λ q. eqb q plane) (λ q. x) (before p0 p1 p2 p3 picture) ⌝ }
+    ensures { λ _. ⌜ after p0 p1 p2 p3 picture ≡ laid at (λ q. eqb q plane) (λ q. combines kind x (byteOfPlane (before p0 p1 p2 p3 picture) q at)) (before p0 p1 p2 p3 picture) ⌝ }
 {
     if plane == 0 {
-        p0[at] = x;
+        p0[at] = combined(kind, x, p0[at]);
         return;
     }
     if plane == 1 {
-        p1[at] = x;
+        p1[at] = combined(kind, x, p1[at]);
         return;
     }
     if plane == 2 {
-        p2[at] = x;
+        p2[at] = combined(kind, x, p2[at]);
         return;
     }
-    p3[at] = x;
+    p3[at] = combined(kind, x, p3[at]);
 }
 
 // The pixels that four planes' bytes have at bits s and s + 4, in the low and the high half: plane p's bit becomes bit p of each.
@@ -231,11 +123,12 @@ pub fn store(
     picture: &mut [u8],
     plane: usize,
     at: usize,
+    kind: PlaneStore,
     x: u8,
 )
     requires { ⌜ Shaped (lent p0 p1 p2 p3 picture) × ((at < length (now p0)) × (plane ≤ 3)) ⌝ }
-    ensures { λ _. ⌜ after p0 p1 p2 p3 picture ≡ remade at (laid at (λ q. eqb q plane) (λ q. x) (before p0 p1 p2 p3 picture)) ⌝ }
+    ensures { λ _. ⌜ after p0 p1 p2 p3 picture ≡ remade at (laid at (λ q. eqb q plane) (λ q. combines kind x (byteOfPlane (before p0 p1 p2 p3 picture) q at)) (before p0 p1 p2 p3 picture)) ⌝ }
 {
-    lay(p0, p1, p2, p3, picture, plane, at, x);
+    lay(p0, p1, p2, p3, picture, plane, at, kind, x);
     remake(p0, p1, p2, p3, picture, at);
 }

@@ -5,8 +5,6 @@ use mathlib.Core.Path.{_≡_, refl, sym, ap, _∙_}
 use mathlib.Core.Bool.{Bool, true, false}
 use mathlib.Core.List.{[]}
 use lib.Dec.{eqb}
-use Rattle.bits.specs.Bit.{bit, byteOf}
-use Rattle.bits.proofs.Laws.{bit-lt, bit-of, of-lt}
 use Rattle.machine.specs.declared.sequencer.Sequencer.{Sequencer}
 use Rattle.machine.specs.declared.answer.Refusal.{Refusal}
 use Rattle.machine.specs.Memory.{Memory, shape}
@@ -18,13 +16,15 @@ use Rattle.machine.specs.Sequencer.{fitsSeq, inMask, storedAt}
 use Rattle.machine.specs.Calls.{refuse, planeNumber, storeOne, directPlan}
 use Rattle.machine.specs.Step.{directStep}
 use Rattle.machine.proofs.Laws.{refuse-0, AtPlane, plane-accepted, refusal-some, perform-done, perform-refused, stored-none}
-use Rattle.vram.proofs.Laws.{store-one, as-told}
-use Rattle.sequencer.specs.declared.direct.PlaneStore.{PlaneStore}
-use Rattle.sequencer.specs.declared.direct.PlaneStore.the-variants.{Set, And, Or}
+use Rattle.judges.proofs.Told.{as-told}
+use Rattle.planes.specs.Stores.{combines, storeBit}
+use Rattle.planes.proofs.Stores.{store-one}
+use Rattle.planes.specs.declared.kind.PlaneStore.{PlaneStore}
+use Rattle.planes.specs.declared.kind.PlaneStore.the-variants.{Set, And, Or}
 use Rattle.sequencer.specs.declared.direct.PlaneRead.{PlaneRead}
 use Rattle.sequencer.specs.declared.direct.PlaneRead.the-variants.{Cpu, Gc}
-use Rattle.sequencer.specs.Direct.{readCall, readAt, storeCall, storeBit}
-use Rattle.sequencer.proofs.Laws.{gc-read-at-le}
+use Rattle.sequencer.specs.Direct.{readCall, readAt, storeCall}
+use Rattle.sequencer_registers.proofs.Laws.{gc-read-at-le}
 
 -- ---- where a read leads
 
@@ -59,19 +59,11 @@ module _ (s : Sequencer) (m : Memory) (p o : ℕ) (a : Bool) {d : DoneAnswer} (j
   read-done Cpu at x e f g = perform-done _ m m _ (as-told e j) refl (ap one (g ∙ ap (byte m p) f))
   read-done Gc at x e f g = perform-done _ m m _ (as-told e j) refl (ap one (g ∙ ap (byte m p) f))
 
-store-bit-lt : (k : PlaneStore) (a b : ℕ) → a < 2 → b < 2 → storeBit k a b < 2
-store-bit-lt Set a b h l = h
-store-bit-lt And a b h l = omega arith
-store-bit-lt Or a b h l = omega arith
-
 -- a direct store's memory, whatever its kind: through the mask, or stopped by it
 module _ (k : PlaneStore) (s : Sequencer) (m : Memory) (p o : ℕ) (a : Bool) (x : ℕ) (h : p ≤ 3) where
-  pub store-let : {m′ : Memory} (at old y : ℕ) → inMask s o a p ≡ true → at ≡ storedAt s o → old ≡ byte m p at → y ≡ byteOf (λ i. storeBit k (bit i x) (bit i old))
-      → m′ ≡ remade at (laid at (λ q. eqb q p) (λ q. y) m) → m′ ≡ memoryAfter (storeOne (storeBit k) p (storedAt s o) (inMask s o a) x) [] m
-  store-let at old y w e f g left =
-      let bits : (i : ℕ) → storeBit k (bit i x) (bit i old) < 2 = λ i. store-bit-lt k _ _ (bit-lt i _) (bit-lt i _) in
-      let told : (i : ℕ) → i < 8 → bit i y ≡ storeBit k (bit i x) (bit i (byte m p at)) = λ i l. ap (bit i) g ∙ bit-of 8 _ bits i l ∙ ap (λ (b : ℕ). storeBit k (bit i x) (bit i b)) f in
-      rw (← e) (left ∙ store-one (storeBit k) p at x y (inMask s o a) m h w (rw g (of-lt 8 _ bits)) told)
+  pub store-let : {m′ : Memory} (at : ℕ) → inMask s o a p ≡ true → at ≡ storedAt s o → x < 256 → m′ ≡ remade at (laid at (λ q. eqb q p) (λ q. combines k x (byte m q at)) m)
+      → m′ ≡ memoryAfter (storeOne (storeBit k) p (storedAt s o) (inMask s o a) x) [] m
+  store-let at w e fits left = rw (← e) (left ∙ store-one k p at x (inMask s o a) m h w fits)
 
   pub store-stopped : inMask s o a p ≡ false → m ≡ memoryAfter (storeOne (storeBit k) p (storedAt s o) (inMask s o a) x) [] m
   unfolding memoryAfter

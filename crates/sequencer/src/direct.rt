@@ -4,40 +4,33 @@ ghost use mathlib.Core.Bool.{true};
 ghost use mathlib.Core.List.{[]};
 ghost use Prim.Native.Nat.{ℕ, _<_, _≤_};
 ghost use lib.ListN.{length};
-ghost use Rattle.bits.specs.Bit.{bit, byteOf};
-ghost use Rattle.machine.specs.Memory.{lent, before, after, shape, Shaped};
+ghost use Rattle.machine.specs.Memory.{lent, before, after, Shaped};
 ghost use Rattle.machine.specs.Answers.{outcome, byteSaid, pixelSaid, storeSaid, doneSaid, partSaid};
 ghost use Rattle.machine.specs.Deeds.{memoryAfter};
 ghost use Rattle.machine.specs.Sequencer.{fitsSeq, inMask, storedAt};
 ghost use Rattle.machine.specs.Calls.{refuse, planeNumber, storeOne, seqCpuReadU8, seqGcReadU8, seqPeekU8, seqReadLinear, seqSerializeLinear, seqPlaneSet, seqPlaneAnd, seqPlaneOr};
 ghost use Rattle.machine.specs.Step.{directStep};
-ghost use Rattle.sequencer.specs.Direct.{readAt, readCall, storeBit, storeCall};
-use crate::inner;
+ghost use Rattle.planes.specs.Stores.{storeBit};
+ghost use Rattle.sequencer.specs.Direct.{readAt, readCall, storeCall};
 use machine::ByteAnswer;
 use machine::DoneAnswer;
 use machine::PixelPlace;
 use machine::PlaneOffset;
 use machine::Refusal;
 use machine::Sequencer;
+use machine::Shape;
 use machine::StoreAnswer;
+use planes::PlaneStore;
+use sequencer_registers::inner;
 
 // Refusals 6, 1, 4, 3: of a call that names a plane and an offset.
-fn judge_plane(
-    seq: Sequencer,
-    p0: &[u8],
-    p1: &[u8],
-    p2: &[u8],
-    p3: &[u8],
-    picture: &[u8],
-    plane: usize,
-    offset: PlaneOffset,
-) -> DoneAnswer
-    ensures { λ r. ⌜ doneSaid r .number ≡ refuse (fitsSeq seq) 6 (planeNumber (shape (before p0 p1 p2 p3 picture)) plane (offset .0)) ⌝ }
+fn judge_plane(seq: Sequencer, shape: Shape, plane: usize, offset: PlaneOffset) -> DoneAnswer
+    ensures { λ r. ⌜ doneSaid r .number ≡ refuse (fitsSeq seq) 6 (planeNumber shape plane (offset .0)) ⌝ }
 {
-    if !inner::fits(seq) {
+    if !judges::fits_seq(seq) {
         return DoneAnswer::Refused(Refusal::State);
     }
-    planes::inner::judge_plane(p0, p1, p2, p3, picture, plane, offset)
+    judges::judge_plane(shape, plane, offset)
 }
 
 // How a read by plane takes its offset: as it stands, or where chain-four leads.
@@ -70,7 +63,14 @@ fn plane_read(
 ) -> ByteAnswer
     ensures { λ r. ⌜ outcome (byteSaid r) (before p0 p1 p2 p3 picture) ≡ directStep seq (before p0 p1 p2 p3 picture) (readCall kind plane (offset .0) a0) ⌝ }
 {
-    match judge_plane(seq, p0, p1, p2, p3, picture, plane, offset) {
+    let shape = Shape {
+        p0: p0.len(),
+        p1: p1.len(),
+        p2: p2.len(),
+        p3: p3.len(),
+        picture: picture.len(),
+    };
+    match judge_plane(seq, shape, plane, offset) {
         DoneAnswer::Refused(x) => ByteAnswer::Refused(x),
         DoneAnswer::Done => {
             let at = read_at(seq, offset.0, kind);
@@ -164,7 +164,7 @@ pub fn read_linear(
 ) -> ByteAnswer
     ensures { λ r. ⌜ outcome (pixelSaid r) (before p0 p1 p2 p3 picture) ≡ directStep seq (before p0 p1 p2 p3 picture) (seqReadLinear (place .0)) ⌝ }
 {
-    if !inner::fits(seq) {
+    if !judges::fits_seq(seq) {
         return ByteAnswer::Refused(Refusal::State);
     }
     vram::read_linear(p0, p1, p2, p3, picture, place)
@@ -183,28 +183,11 @@ pub fn serialize_linear<'a, 'b, 'c, 'd, 'p, 'n>(
 ) -> &'p [u8]
     ensures { λ r. ⌜ outcome (partSaid (now (number .exit)) (now r)) (before p0 p1 p2 p3 picture) ≡ directStep seq (before p0 p1 p2 p3 picture) (seqSerializeLinear (offset .0)) ⌝ }
 {
-    if !inner::fits(seq) {
+    if !judges::fits_seq(seq) {
         *number = machine::inner::refusal_number(Refusal::State);
         return &picture[0..0];
     }
     vram::serialize_linear(p0, p1, p2, p3, picture, offset, number)
-}
-
-// What a direct store makes of the byte given and the plane's byte.
-enum PlaneStore {
-    Set,
-    And,
-    Or,
-}
-
-fn combined(kind: PlaneStore, byte: u8, old: u8) -> u8
-    ensures { λ r. ⌜ r ≡ byteOf (λ i. storeBit kind (bit i byte) (bit i old)) ⌝ }
-{
-    match kind {
-        PlaneStore::Set => byte,
-        PlaneStore::And => byte & old,
-        PlaneStore::Or => byte | old,
-    }
 }
 
 // A store, already judged: where the mask has the plane, its byte and its eight pixels; else nothing.
@@ -227,9 +210,7 @@ fn store_masked(
     let mask = inner::mask(seq, offset, a0);
     if mask & (1 << plane) != 0 {
         let at = inner::stored_at(seq, offset);
-        let old = planes::inner::byte(p0, p1, p2, p3, picture, plane, at);
-        let new = combined(kind, byte, old);
-        planes::inner::store(p0, p1, p2, p3, picture, plane, at, new);
+        planes::inner::store(p0, p1, p2, p3, picture, plane, at, kind, byte);
     }
 }
 
@@ -249,7 +230,14 @@ fn plane_store(
 ) -> StoreAnswer
     ensures { λ r. ⌜ outcome (storeSaid r) (after p0 p1 p2 p3 picture) ≡ directStep seq (before p0 p1 p2 p3 picture) (storeCall kind plane (offset .0) a0 byte) ⌝ }
 {
-    match judge_plane(seq, p0, p1, p2, p3, picture, plane, offset) {
+    let shape = Shape {
+        p0: p0.len(),
+        p1: p1.len(),
+        p2: p2.len(),
+        p3: p3.len(),
+        picture: picture.len(),
+    };
+    match judge_plane(seq, shape, plane, offset) {
         DoneAnswer::Refused(x) => StoreAnswer::Refused(x),
         DoneAnswer::Done => {
             let at = offset.0;

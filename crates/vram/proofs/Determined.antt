@@ -12,7 +12,7 @@ use Rattle.machine.specs.declared.answer.StoreAnswer.{StoreAnswer}
 use Rattle.machine.specs.declared.answer.DoneAnswer.{DoneAnswer}
 use Rattle.machine.specs.Memory.{Memory, lent}
 use Rattle.machine.specs.Answers.{Value, one, two, pixel, part, Said, Outcome, outcome}
-use Rattle.machine.proofs.Injective.{byte-injective, pixel-injective, store-injective, done-injective}
+use Rattle.machine.proofs.Injective.{answer-of, next-of, pixels-of, byte-injective, pixel-injective, store-injective, done-injective}
 use Rattle.vram.proofs.read_glyph.Reads as read-glyph
 use Rattle.vram.proofs.read_glyph.Kinds as read-glyph-kinds
 use Rattle.vram.proofs.peek_u8.Reads as peek-u8
@@ -33,20 +33,6 @@ use Rattle.vram.proofs.plane_and.Reads as plane-and
 use Rattle.vram.proofs.plane_and.Kinds as plane-and-kinds
 use Rattle.vram.proofs.plane_or.Reads as plane-or
 use Rattle.vram.proofs.plane_or.Kinds as plane-or-kinds
-
--- two outcomes that are the machine's are one: the same is said, and the same is left
-module _ {a b : Said} {m n : Memory} {o : Outcome Memory} (p : outcome a m ≡ o) (q : outcome b n ≡ o) where
-  answer-of : a ≡ b
-  answer-of = ap (λ (o : Outcome Memory). o .answer) (p ∙ sym q)
-
-  next-of : m ≡ n
-  next-of = ap (λ (o : Outcome Memory). o .next) (p ∙ sym q)
-
-abbrev pixelsOf : Value → List ℕ
-pixelsOf (one x) = []
-pixelsOf (two x y) = []
-pixelsOf (pixel x) = []
-pixelsOf (part l) = l
 
 -- what the four stores leave behind their five slices
 abbrev Stored : Lfts 5 → Type 0
@@ -77,7 +63,7 @@ module _ (κs : Lfts 5) (a : Dens κs read-linear-kinds.ps) where
 
 module _ (κs : Lfts 6) (a : Dens κs serialize-linear-kinds.ps) where
   pub serialize-linear-determined : (r r′ : RefT (List ℕ)) (e e′ : AtExit (endedOf 6 serialize-linear-kinds.ps serialize-linear-kinds.r) κs) → serialize-linear.Post κs a r e → serialize-linear.Post κs a r′ e′ → (now r ≡ now r′) × (now (e .1 .1 .1 .1 .1 .1 .0) ≡ now (e′ .1 .1 .1 .1 .1 .1 .0))
-  serialize-linear-determined r r′ e e′ p q = (ap (λ (s : Said). pixelsOf (s .value)) (answer-of p q), ap (λ (s : Said). s .number) (answer-of p q))
+  serialize-linear-determined r r′ e e′ p q = (pixels-of p q, ap (λ (s : Said). s .number) (answer-of p q))
 
 module _ (κs : Lfts 5) (a : Dens κs deplane-kinds.ps) where
   pub deplane-determined : (r r′ : DoneAnswer) (e e′ : AtExit (endedOf 5 deplane-kinds.ps deplane-kinds.r) κs) → deplane.Post κs a r e → deplane.Post κs a r′ e′ → (r ≡ r′) × (now (e .1 .1 .1 .1 .0) ≡ now (e′ .1 .1 .1 .1 .0))

@@ -5,11 +5,14 @@ ghost use Rattle.machine.specs.Memory.{before, after};
 ghost use Rattle.machine.specs.Answers.{outcome, byteSaid, pixelSaid, storeSaid, doneSaid, partSaid};
 ghost use Rattle.machine.specs.Calls.{readGlyph, peekU8, readU8, writeU8, readLinear, serializeLinear, deplane as remakes, planeSet, planeAnd, planeOr};
 ghost use Rattle.machine.specs.Step.{vramStep};
+ghost use Rattle.vram.specs.Stores.{storeCall};
 use machine::ByteAnswer;
 use machine::DoneAnswer;
 use machine::PixelPlace;
 use machine::PlaneOffset;
+use machine::Shape;
 use machine::StoreAnswer;
+use planes::PlaneStore;
 
 // Plane 2's byte.
 pub fn read_glyph(
@@ -22,7 +25,14 @@ pub fn read_glyph(
 ) -> ByteAnswer
     ensures { λ r. ⌜ outcome (byteSaid r) (before p0 p1 p2 p3 picture) ≡ vramStep (before p0 p1 p2 p3 picture) (readGlyph (offset .0)) ⌝ }
 {
-    match planes::inner::judge_offset(p0, p1, p2, p3, picture, offset) {
+    let shape = Shape {
+        p0: p0.len(),
+        p1: p1.len(),
+        p2: p2.len(),
+        p3: p3.len(),
+        picture: picture.len(),
+    };
+    match judges::judge_offset(shape, offset) {
         DoneAnswer::Refused(x) => ByteAnswer::Refused(x),
         DoneAnswer::Done => {
             let at = offset.0;
@@ -58,7 +68,14 @@ pub fn read_u8(
 ) -> ByteAnswer
     ensures { λ r. ⌜ outcome (byteSaid r) (before p0 p1 p2 p3 picture) ≡ vramStep (before p0 p1 p2 p3 picture) (readU8 plane (offset .0)) ⌝ }
 {
-    match planes::inner::judge_plane(p0, p1, p2, p3, picture, plane, offset) {
+    let shape = Shape {
+        p0: p0.len(),
+        p1: p1.len(),
+        p2: p2.len(),
+        p3: p3.len(),
+        picture: picture.len(),
+    };
+    match judges::judge_plane(shape, plane, offset) {
         DoneAnswer::Refused(x) => ByteAnswer::Refused(x),
         DoneAnswer::Done => {
             let at = offset.0;
@@ -80,7 +97,17 @@ pub fn write_u8(
 ) -> StoreAnswer
     ensures { λ r. ⌜ outcome (storeSaid r) (after p0 p1 p2 p3 picture) ≡ vramStep (before p0 p1 p2 p3 picture) (writeU8 plane (offset .0) byte) ⌝ }
 {
-    plane_set(p0, p1, p2, p3, picture, plane, offset, byte)
+    plane_store(
+        p0,
+        p1,
+        p2,
+        p3,
+        picture,
+        plane,
+        offset,
+        PlaneStore::Set,
+        byte,
+    )
 }
 
 // The pixel at a place.
@@ -94,7 +121,14 @@ pub fn read_linear(
 ) -> ByteAnswer
     ensures { λ r. ⌜ outcome (pixelSaid r) (before p0 p1 p2 p3 picture) ≡ vramStep (before p0 p1 p2 p3 picture) (readLinear (place .0)) ⌝ }
 {
-    match planes::inner::judge_place(p0, p1, p2, p3, picture, place) {
+    let shape = Shape {
+        p0: p0.len(),
+        p1: p1.len(),
+        p2: p2.len(),
+        p3: p3.len(),
+        picture: picture.len(),
+    };
+    match judges::judge_place(shape, place) {
         DoneAnswer::Refused(x) => ByteAnswer::Refused(x),
         DoneAnswer::Done => {
             let at = place.0;
@@ -115,7 +149,14 @@ pub fn serialize_linear<'a, 'b, 'c, 'd, 'p, 'n>(
 ) -> &'p [u8]
     ensures { λ r. ⌜ outcome (partSaid (now (number .exit)) (now r)) (before p0 p1 p2 p3 picture) ≡ vramStep (before p0 p1 p2 p3 picture) (serializeLinear (offset .0)) ⌝ }
 {
-    match planes::inner::judge_shown(p0, p1, p2, p3, picture, offset) {
+    let shape = Shape {
+        p0: p0.len(),
+        p1: p1.len(),
+        p2: p2.len(),
+        p3: p3.len(),
+        picture: picture.len(),
+    };
+    match judges::judge_shown(shape, offset) {
         DoneAnswer::Refused(x) => {
             *number = machine::inner::refusal_number(x);
             &picture[0..0]
@@ -141,12 +182,50 @@ pub fn deplane(
 ) -> DoneAnswer
     ensures { λ r. ⌜ outcome (doneSaid r) (after p0 p1 p2 p3 picture) ≡ vramStep (before p0 p1 p2 p3 picture) (remakes (offset .0)) ⌝ }
 {
-    match planes::inner::judge_offset(p0, p1, p2, p3, picture, offset) {
+    let shape = Shape {
+        p0: p0.len(),
+        p1: p1.len(),
+        p2: p2.len(),
+        p3: p3.len(),
+        picture: picture.len(),
+    };
+    match judges::judge_offset(shape, offset) {
         DoneAnswer::Refused(x) => DoneAnswer::Refused(x),
         DoneAnswer::Done => {
             let at = offset.0;
             planes::inner::remake(p0, p1, p2, p3, picture, at);
             DoneAnswer::Done
+        }
+    }
+}
+
+// The stores by plane in one: judged, then stored, and the offset's eight pixels remade.
+fn plane_store(
+    p0: &mut [u8],
+    p1: &mut [u8],
+    p2: &mut [u8],
+    p3: &mut [u8],
+    picture: &mut [u8],
+    plane: usize,
+    offset: PlaneOffset,
+    kind: PlaneStore,
+    byte: u8,
+) -> StoreAnswer
+    ensures { λ r. ⌜ outcome (storeSaid r) (after p0 p1 p2 p3 picture) ≡ vramStep (before p0 p1 p2 p3 picture) (storeCall kind plane (offset .0) byte) ⌝ }
+{
+    let shape = Shape {
+        p0: p0.len(),
+        p1: p1.len(),
+        p2: p2.len(),
+        p3: p3.len(),
+        picture: picture.len(),
+    };
+    match judges::judge_plane(shape, plane, offset) {
+        DoneAnswer::Refused(x) => StoreAnswer::Refused(x),
+        DoneAnswer::Done => {
+            let at = offset.0;
+            planes::inner::store(p0, p1, p2, p3, picture, plane, at, kind, byte);
+            StoreAnswer::Done
         }
     }
 }
@@ -164,14 +243,17 @@ pub fn plane_set(
 ) -> StoreAnswer
     ensures { λ r. ⌜ outcome (storeSaid r) (after p0 p1 p2 p3 picture) ≡ vramStep (before p0 p1 p2 p3 picture) (planeSet plane (offset .0) byte) ⌝ }
 {
-    match planes::inner::judge_plane(p0, p1, p2, p3, picture, plane, offset) {
-        DoneAnswer::Refused(x) => StoreAnswer::Refused(x),
-        DoneAnswer::Done => {
-            let at = offset.0;
-            planes::inner::store(p0, p1, p2, p3, picture, plane, at, byte);
-            StoreAnswer::Done
-        }
-    }
+    plane_store(
+        p0,
+        p1,
+        p2,
+        p3,
+        picture,
+        plane,
+        offset,
+        PlaneStore::Set,
+        byte,
+    )
 }
 
 // The plane's byte `and` the one given, put in its place, and its offset's eight pixels remade.
@@ -187,15 +269,17 @@ pub fn plane_and(
 ) -> StoreAnswer
     ensures { λ r. ⌜ outcome (storeSaid r) (after p0 p1 p2 p3 picture) ≡ vramStep (before p0 p1 p2 p3 picture) (planeAnd plane (offset .0) byte) ⌝ }
 {
-    match planes::inner::judge_plane(p0, p1, p2, p3, picture, plane, offset) {
-        DoneAnswer::Refused(x) => StoreAnswer::Refused(x),
-        DoneAnswer::Done => {
-            let at = offset.0;
-            let old = planes::inner::byte(p0, p1, p2, p3, picture, plane, at);
-            planes::inner::store(p0, p1, p2, p3, picture, plane, at, old & byte);
-            StoreAnswer::Done
-        }
-    }
+    plane_store(
+        p0,
+        p1,
+        p2,
+        p3,
+        picture,
+        plane,
+        offset,
+        PlaneStore::And,
+        byte,
+    )
 }
 
 // The plane's byte `or` the one given, put in its place, and its offset's eight pixels remade.
@@ -211,13 +295,5 @@ pub fn plane_or(
 ) -> StoreAnswer
     ensures { λ r. ⌜ outcome (storeSaid r) (after p0 p1 p2 p3 picture) ≡ vramStep (before p0 p1 p2 p3 picture) (planeOr plane (offset .0) byte) ⌝ }
 {
-    match planes::inner::judge_plane(p0, p1, p2, p3, picture, plane, offset) {
-        DoneAnswer::Refused(x) => StoreAnswer::Refused(x),
-        DoneAnswer::Done => {
-            let at = offset.0;
-            let old = planes::inner::byte(p0, p1, p2, p3, picture, plane, at);
-            planes::inner::store(p0, p1, p2, p3, picture, plane, at, old | byte);
-            StoreAnswer::Done
-        }
-    }
+    plane_store(p0, p1, p2, p3, picture, plane, offset, PlaneStore::Or, byte)
 }

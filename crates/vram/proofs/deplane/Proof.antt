@@ -5,7 +5,8 @@ use Rattle.machine.proofs.Laws.{perform-done, perform-refused, refusal-some}
 use Rattle.machine.specs.Step.{vramStep}
 use Rattle.machine.specs.Calls.{vramPlan}
 use Rattle.machine.specs.Deeds.{memoryAfter, valueOf}
-use Rattle.vram.proofs.Laws.{as-told, offset-asked}
+use Rattle.judges.proofs.Told.{as-told}
+use Rattle.vram.proofs.Laws.{offset-asked}
 use Rattle.vram.proofs.deplane.Statement.{statement}
 use Rattle.vram.proofs.deplane.Tie as tie
 
@@ -22,16 +23,13 @@ remake-requires : tie.Need-remake-requires
 remake-requires c κs =
     offset-asked _ _ (as-told (c .before .enum-told .given .1) (c .before .before .before .judge-offset .ensures))
 
-same-length : tie.Need-same-length
-same-length c = search needs
-
 returns : tie.Need-returns
 unfolding vramStep vramPlan valueOf
 returns c =
     perform-refused _ _ _ _ (refusal-some (c .before .x .given .0 .0)) (as-told (c .before .x .given .1) (c .before .before .before .judge-offset .ensures)) refl
 
-same-length-2 : tie.Need-same-length-2
-same-length-2 c = search needs
+same-length : tie.Need-same-length
+same-length c = search needs
 
 returns-2 : tie.Need-returns-2
 unfolding vramStep vramPlan memoryAfter valueOf
@@ -46,7 +44,6 @@ deplane-spec =
     enum-known-x
     enum-told
     remake-requires
-    same-length
     returns
-    same-length-2
+    same-length
     returns-2)

@@ -3,10 +3,12 @@ use native.Mathlib.Omega.{arith}
 use mathlib.Core.Path.{refl}
 use borrow.Author.Needs.{needs}
 use Rattle.machine.proofs.Laws.{perform-done, perform-refused, refusal-some}
+use Rattle.machine.specs.Memory.{mem}
 use Rattle.machine.specs.Step.{vramStep}
 use Rattle.machine.specs.Calls.{vramPlan}
 use Rattle.machine.specs.Deeds.{memoryAfter, valueOf}
-use Rattle.vram.proofs.Laws.{as-told, offset-asked}
+use Rattle.judges.proofs.Told.{as-told}
+use Rattle.vram.proofs.Laws.{offset-asked}
 use Rattle.vram.proofs.read_glyph.Statement.{statement}
 use Rattle.vram.proofs.read_glyph.Tie as tie
 
@@ -19,9 +21,10 @@ enum-known-x c = search needs
 enum-told : tie.Need-enum-told
 enum-told c = search needs
 
-shared-slice-read-t12 : tie.Need-shared-slice-read-t12
-shared-slice-read-t12 c =
-    let h = offset-asked _ _ (as-told (c .before .enum-told .given .1) (c .before .before .before .judge-offset .ensures)) in omega arith
+shared-slice-read-t18 : tie.Need-shared-slice-read-t18
+shared-slice-read-t18 c =
+    let start = c .before .before .before .before .before .before .before .before .before in
+    let h = offset-asked (mem (start .args .p0 .now) (start .args .p1 .now) (start .args .p2 .now) (start .args .p3 .now) (start .args .picture .now)) _ (as-told (c .before .enum-told .given .1) (c .before .before .before .judge-offset .ensures)) in omega arith
 
 returns : tie.Need-returns
 unfolding vramStep vramPlan valueOf
@@ -36,4 +39,4 @@ returns-2 c =
 pub read-glyph-spec : {M : Type 1} → statement M
 read-glyph-spec =
     tie.close
-    (tie.spec judge-offset-requires enum-known-x enum-told shared-slice-read-t12 returns returns-2)
+    (tie.spec judge-offset-requires enum-known-x enum-told shared-slice-read-t18 returns returns-2)

@@ -2,10 +2,11 @@
 use mathlib.Core.Path.{refl, sym}
 use borrow.Author.Needs.{needs}
 use Rattle.machine.proofs.Laws.{perform-done, perform-refused, refusal-some, place-accepted}
+use Rattle.machine.specs.Memory.{mem}
 use Rattle.machine.specs.Step.{vramStep}
 use Rattle.machine.specs.Calls.{vramPlan}
 use Rattle.machine.specs.Deeds.{memoryAfter, valueOf}
-use Rattle.vram.proofs.Laws.{as-told}
+use Rattle.judges.proofs.Told.{as-told}
 use Rattle.vram.proofs.read_linear.Statement.{statement}
 use Rattle.vram.proofs.read_linear.Tie as tie
 
@@ -18,9 +19,10 @@ enum-known-x c = search needs
 enum-told : tie.Need-enum-told
 enum-told c = search needs
 
-shared-slice-read-t12 : tie.Need-shared-slice-read-t12
-shared-slice-read-t12 c =
-    place-accepted _ _ (sym (as-told (c .before .enum-told .given .1) (c .before .before .before .judge-place .ensures))) .place
+shared-slice-read-t18 : tie.Need-shared-slice-read-t18
+shared-slice-read-t18 c =
+    let start = c .before .before .before .before .before .before .before .before .before in
+    place-accepted (mem (start .args .p0 .now) (start .args .p1 .now) (start .args .p2 .now) (start .args .p3 .now) (start .args .picture .now)) _ (sym (as-told (c .before .enum-told .given .1) (c .before .before .before .judge-place .ensures))) .place
 
 returns : tie.Need-returns
 unfolding vramStep vramPlan valueOf
@@ -35,4 +37,4 @@ returns-2 c =
 pub read-linear-spec : {M : Type 1} → statement M
 read-linear-spec =
     tie.close
-    (tie.spec judge-place-requires enum-known-x enum-told shared-slice-read-t12 returns returns-2)
+    (tie.spec judge-place-requires enum-known-x enum-told shared-slice-read-t18 returns returns-2)

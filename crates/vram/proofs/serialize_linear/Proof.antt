@@ -4,10 +4,11 @@ use native.Mathlib.Nat.{add-sub-cancel-left}
 use mathlib.Core.Path.{_∙_, refl, sym}
 use borrow.Author.Needs.{needs}
 use Rattle.machine.proofs.Laws.{perform-done, perform-refused, refusal-some, shown-accepted}
+use Rattle.machine.specs.Memory.{mem}
 use Rattle.machine.specs.Step.{vramStep}
 use Rattle.machine.specs.Calls.{vramPlan}
 use Rattle.machine.specs.Deeds.{memoryAfter, valueOf}
-use Rattle.vram.proofs.Laws.{as-told}
+use Rattle.judges.proofs.Told.{as-told}
 use Rattle.vram.proofs.serialize_linear.Statement.{statement}
 use Rattle.vram.proofs.serialize_linear.Tie as tie
 
@@ -34,11 +35,13 @@ enum-told c = search needs
 
 first-pixel-requires : tie.Need-first-pixel-requires
 first-pixel-requires c κs =
-    let h = shown-accepted _ _ (sym (as-told (c .enum-told .given .1) (c .before .before .judge-shown .ensures))) in omega arith
+    let start = c .before .before .before .before .before .before .before .before in
+    let h = shown-accepted (mem (start .args .p0 .now) (start .args .p1 .now) (start .args .p2 .now) (start .args .p3 .now) (start .args .picture .now)) _ (sym (as-told (c .enum-told .given .1) (c .before .before .judge-shown .ensures))) in omega arith
 
 add-end : tie.Need-add-end
 add-end c =
-    let h = shown-accepted _ _ (sym (as-told (c .before .enum-told .given .1) (c .before .before .before .judge-shown .ensures))) in omega arith
+    let start = c .before .before .before .before .before .before .before .before .before in
+    let h = shown-accepted (mem (start .args .p0 .now) (start .args .p1 .now) (start .args .p2 .now) (start .args .p3 .now) (start .args .picture .now)) _ (sym (as-told (c .before .enum-told .given .1) (c .before .before .before .judge-shown .ensures))) in omega arith
 
 sub-result-2 : tie.Need-sub-result-2
 sub-result-2 c = search needs
@@ -48,7 +51,8 @@ part-result-start-2 c = search needs
 
 part-result-end-2 : tie.Need-part-result-end-2
 part-result-end-2 c =
-    let h = shown-accepted _ _ (sym (as-told (c .before .enum-told .given .1) (c .before .before .before .judge-shown .ensures))) in omega arith
+    let start = c .before .before .before .before .before .before .before .before .before in
+    let h = shown-accepted (mem (start .args .p0 .now) (start .args .p1 .now) (start .args .p2 .now) (start .args .p3 .now) (start .args .picture .now)) _ (sym (as-told (c .before .enum-told .given .1) (c .before .before .before .judge-shown .ensures))) in omega arith
 
 returns : tie.Need-returns
 unfolding vramStep vramPlan valueOf

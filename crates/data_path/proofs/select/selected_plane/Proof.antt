@@ -4,7 +4,7 @@ use mathlib.Core.Path.{sym, _∙_}
 use lib.Bits.{and-le-r}
 use borrow.Author.Needs.{needs}
 use Rattle.machine.specs.DataPath.{selectedPlane}
-use Rattle.data_path.proofs.Windows.{bit0-replaced, bit0-of}
+use Rattle.judges.proofs.Windows.{bit0-replaced, bit0-of}
 use Rattle.data_path.proofs.select.selected_plane.Statement.{statement}
 use Rattle.data_path.proofs.select.selected_plane.Tie as tie
 

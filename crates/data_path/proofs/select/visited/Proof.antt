@@ -4,7 +4,7 @@ use borrow.Author.Tests.{eq-eqb, ne-eqb}
 use borrow.Author.Needs.{needs}
 use Rattle.bits.specs.Bit.{ofBits}
 use Rattle.machine.specs.DataPath.{visits}
-use Rattle.data_path.proofs.Windows.{bit0-is}
+use Rattle.judges.proofs.Windows.{bit0-is}
 use Rattle.data_path.proofs.select.visited.Statement.{statement}
 use Rattle.data_path.proofs.select.visited.Tie as tie
 

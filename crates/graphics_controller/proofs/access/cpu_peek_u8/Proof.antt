@@ -30,8 +30,8 @@ enum-known-x c = search needs
 enum-known-offset : tie.Need-enum-known-offset
 enum-known-offset c = search needs
 
-shared-slice-read-t22 : tie.Need-shared-slice-read-t22
-shared-slice-read-t22 c =
+shared-slice-read-t27 : tie.Need-shared-slice-read-t27
+shared-slice-read-t27 c =
     let a = c .before .before .before .before .before .before .before .before .before .before .before .before .before .before .before .args in
     let j = judged (a .gc .registers) (a .seq) (mem (a .p0 .now) (a .p1 .now) (a .p2 .now) (a .p3 .now) (a .picture .now)) (a .address) (a .page) (c .before .before .before .before .judge-address .result) _ _ _ _ (c .before .before .before .before .before .before .before .before .fits-both .ensures) (c .before .before .before .before .before .before .before .shaped .ensures) (c .before .before .before .before .before .before .memory-map .ensures) (c .before .before .before .before .before .chain-odd-even .ensures) (c .before .before .before .before .judge-address .ensures) in
     let l = located _ _ _ _ (a0 (a .address)) j _ _ (c .before .before .offset .given .1) in
@@ -62,6 +62,6 @@ cpu-peek-u8-spec =
     judge-address-requires
     enum-known-x
     enum-known-offset
-    shared-slice-read-t22
+    shared-slice-read-t27
     returns
     returns-2)

@@ -1,6 +1,6 @@
 -- `cpu_read_u8` answers as the machine: refused by the judge's number, else from the latches that it loads, with one counter raised.
 use Rattle.graphics_controller.proofs.Accesses.{judged, located, unlocated, access-fits, read-refused, read-done}
-use Rattle.graphics_controller.proofs.Held.{map-select-fits}
+use Rattle.judges.proofs.Held.{map-select-fits}
 use Rattle.machine.specs.Memory.{mem, shape}
 use Rattle.machine.proofs.Laws.{refusal-some, access-accepted}
 use Rattle.machine.specs.Address.{a0}
@@ -39,18 +39,12 @@ load-requires c κs =
     let h = access-accepted (mem (a .p0 .now) (a .p1 .now) (a .p2 .now) (a .p3 .now) (a .picture .now)) (a .gc .registers) (a .seq) (a .address) (a .page) (sym (l .accepted)) in
     (h .shaped, omega (arith, l .offset, h .offset))
 
-read-mode-requires : tie.Need-read-mode-requires
-read-mode-requires c κs = search needs
-
-read-byte-requires : tie.Need-read-byte-requires
-read-byte-requires c κs =
-    let a = c .before .before .before .before .before .before .before .before .before .before .before .before .before .before .before .before .args in
-    let j = judged (a .gc .registers) (a .seq) (mem (a .p0 .now) (a .p1 .now) (a .p2 .now) (a .p3 .now) (a .picture .now)) (a .address) (a .page) (c .before .before .before .before .before .judge-address .result) _ _ _ _ (c .before .before .before .before .before .before .before .before .before .fits-both .ensures) (c .before .before .before .before .before .before .before .before .shaped .ensures) (c .before .before .before .before .before .before .before .memory-map .ensures) (c .before .before .before .before .before .before .chain-odd-even .ensures) (c .before .before .before .before .before .judge-address .ensures) in
-    let l = located _ _ _ _ (a0 (a .address)) j _ _ (c .before .before .before .offset .given .1) in
+read-done-requires : tie.Need-read-done-requires
+read-done-requires c κs =
+    let a = c .before .before .before .before .before .before .before .before .before .before .before .before .before .before .before .args in
+    let j = judged (a .gc .registers) (a .seq) (mem (a .p0 .now) (a .p1 .now) (a .p2 .now) (a .p3 .now) (a .picture .now)) (a .address) (a .page) (c .before .before .before .before .judge-address .result) _ _ _ _ (c .before .before .before .before .before .before .before .before .fits-both .ensures) (c .before .before .before .before .before .before .before .shaped .ensures) (c .before .before .before .before .before .before .memory-map .ensures) (c .before .before .before .before .before .chain-odd-even .ensures) (c .before .before .before .before .judge-address .ensures) in
+    let l = located _ _ _ _ (a0 (a .address)) j _ _ (c .before .before .offset .given .1) in
     map-select-fits (a .gc .registers) (access-fits (a .gc .registers) (a .seq) (shape (mem (a .p0 .now) (a .p1 .now) (a .p2 .now) (a .p3 .now) (a .picture .now))) (a .address) (a .page) (l .accepted) .0)
-
-counted-read-requires : tie.Need-counted-read-requires
-counted-read-requires c κs = search needs
 
 returns : tie.Need-returns
 returns c =
@@ -60,10 +54,10 @@ returns c =
 
 returns-2 : tie.Need-returns-2
 returns-2 c =
-    let a = c .before .before .before .before .before .before .before .before .before .before .before .before .before .before .before .before .before .before .args in
-    let j = judged (a .gc .registers) (a .seq) (mem (a .p0 .now) (a .p1 .now) (a .p2 .now) (a .p3 .now) (a .picture .now)) (a .address) (a .page) (c .before .before .before .before .before .before .before .judge-address .result) _ _ _ _ (c .before .before .before .before .before .before .before .before .before .before .before .fits-both .ensures) (c .before .before .before .before .before .before .before .before .before .before .shaped .ensures) (c .before .before .before .before .before .before .before .before .before .memory-map .ensures) (c .before .before .before .before .before .before .before .before .chain-odd-even .ensures) (c .before .before .before .before .before .before .before .judge-address .ensures) in
-    let l = located _ _ _ _ (a0 (a .address)) j _ _ (c .before .before .before .before .before .offset .given .1) in
-    read-done (a .gc) (a .seq) (mem (a .p0 .now) (a .p1 .now) (a .p2 .now) (a .p3 .now) (a .picture .now)) (a .address) (a .page) _ _ _ _ _ (l .accepted) (l .offset) (c .before .before .read-mode .ensures) (c .counted-read .ensures) (c .before .before .before .load .ensures) (c .before .read-byte .ensures)
+    let a = c .before .before .before .before .before .before .before .before .before .before .before .before .before .before .before .before .args in
+    let j = judged (a .gc .registers) (a .seq) (mem (a .p0 .now) (a .p1 .now) (a .p2 .now) (a .p3 .now) (a .picture .now)) (a .address) (a .page) (c .before .before .before .before .before .judge-address .result) _ _ _ _ (c .before .before .before .before .before .before .before .before .before .fits-both .ensures) (c .before .before .before .before .before .before .before .before .shaped .ensures) (c .before .before .before .before .before .before .before .memory-map .ensures) (c .before .before .before .before .before .before .chain-odd-even .ensures) (c .before .before .before .before .before .judge-address .ensures) in
+    let l = located _ _ _ _ (a0 (a .address)) j _ _ (c .before .before .before .offset .given .1) in
+    read-done (a .gc) (a .seq) (mem (a .p0 .now) (a .p1 .now) (a .p2 .now) (a .p3 .now) (a .picture .now)) (a .address) (a .page) _ _ _ _ (l .accepted) (l .offset) (c .before .load .ensures) (c .read-done .ensures)
 
 pub cpu-read-u8-spec : {M : Type 1} → statement M
 cpu-read-u8-spec =
@@ -77,8 +71,6 @@ cpu-read-u8-spec =
     enum-known-x
     enum-known-offset
     load-requires
-    read-mode-requires
-    read-byte-requires
-    counted-read-requires
+    read-done-requires
     returns
     returns-2)

@@ -32,14 +32,20 @@ enum-known-offset c = search needs
 
 write-planes-requires : tie.Need-write-planes-requires
 write-planes-requires c κs =
-    let a = c .before .before .before .before .before .before .before .before .before .before .before .before .before .before .before .before .before .before .before .before .before .before .before .before .args in
-    let j = judged (a .gc .registers) (a .seq) (mem (a .p0 .now) (a .p1 .now) (a .p2 .now) (a .p3 .now) (a .picture .now)) (a .address) (a .page) (c .before .before .before .before .before .before .before .before .judge-address .result) _ _ _ _ (c .before .before .before .before .before .before .before .before .before .before .before .before .before .before .before .before .before .fits-both .ensures) (c .before .before .before .before .before .before .before .before .before .before .before .shaped .ensures) (c .before .before .before .before .before .before .before .before .before .before .memory-map .ensures) (c .before .before .before .before .before .before .before .before .before .chain-odd-even .ensures) (c .before .before .before .before .before .before .before .before .judge-address .ensures) in
+    let a = c .before .before .before .before .before .before .before .before .before .before .before .before .before .before .before .before .before .before .before .args in
+    let j = judged (a .gc .registers) (a .seq) (mem (a .p0 .now) (a .p1 .now) (a .p2 .now) (a .p3 .now) (a .picture .now)) (a .address) (a .page) (c .before .before .before .before .before .before .before .before .judge-address .result) _ _ _ _ (c .before .before .before .before .before .before .before .before .before .before .before .before .fits-both .ensures) (c .before .before .before .before .before .before .before .before .before .before .before .shaped .ensures) (c .before .before .before .before .before .before .before .before .before .before .memory-map .ensures) (c .before .before .before .before .before .before .before .before .before .chain-odd-even .ensures) (c .before .before .before .before .before .before .before .before .judge-address .ensures) in
     let l = located _ _ _ _ (a0 (a .address)) j _ _ (c .before .before .before .before .before .before .offset .given .1) in
     let h = access-accepted (mem (a .p0 .now) (a .p1 .now) (a .p2 .now) (a .p3 .now) (a .picture .now)) (a .gc .registers) (a .seq) (a .address) (a .page) (sym (l .accepted)) in
     (h .shaped, (omega (arith, l .offset, h .offset), (access-fits (a .gc .registers) (a .seq) (shape (mem (a .p0 .now) (a .p1 .now) (a .p2 .now) (a .p3 .now) (a .picture .now))) (a .address) (a .page) (l .accepted) .1, l .bit0)))
 
-wrote-requires : tie.Need-wrote-requires
-wrote-requires c κs = search needs
+write-done-requires : tie.Need-write-done-requires
+write-done-requires c κs = search needs
+
+returns : tie.Need-returns
+returns c =
+    let a = c .before .before .before .before .before .before .before .before .before .before .before .before .before .before .args in
+    let j = judged (a .gc .registers) (a .seq) (mem (a .p0 .now) (a .p1 .now) (a .p2 .now) (a .p3 .now) (a .picture .now)) (a .address) (a .page) (c .before .before .before .judge-address .result) _ _ _ _ (c .before .before .before .before .before .before .before .fits-both .ensures) (c .before .before .before .before .before .before .shaped .ensures) (c .before .before .before .before .before .memory-map .ensures) (c .before .before .before .before .chain-odd-even .ensures) (c .before .before .before .judge-address .ensures) in
+    write-refused (a .gc) (a .seq) (mem (a .p0 .now) (a .p1 .now) (a .p2 .now) (a .p3 .now) (a .picture .now)) (a .address) (a .page) (a .byte) _ (refusal-some (c .before .x .given .0 .0)) (unlocated _ _ _ _ (a0 (a .address)) j _ (c .before .x .given .1))
 
 same-length : tie.Need-same-length
 same-length c = search needs
@@ -56,33 +62,12 @@ same-length-4 c = search needs
 same-length-5 : tie.Need-same-length-5
 same-length-5 c = search needs
 
-returns : tie.Need-returns
-returns c =
-    let a = c .before .before .before .before .before .before .before .before .before .before .before .before .before .before .before .before .before .before .before .args in
-    let j = judged (a .gc .registers) (a .seq) (mem (a .p0 .now) (a .p1 .now) (a .p2 .now) (a .p3 .now) (a .picture .now)) (a .address) (a .page) (c .before .before .before .judge-address .result) _ _ _ _ (c .before .before .before .before .before .before .before .before .before .before .before .before .fits-both .ensures) (c .before .before .before .before .before .before .shaped .ensures) (c .before .before .before .before .before .memory-map .ensures) (c .before .before .before .before .chain-odd-even .ensures) (c .before .before .before .judge-address .ensures) in
-    write-refused (a .gc) (a .seq) (mem (a .p0 .now) (a .p1 .now) (a .p2 .now) (a .p3 .now) (a .picture .now)) (a .address) (a .page) (a .byte) _ (refusal-some (c .before .x .given .0 .0)) (unlocated _ _ _ _ (a0 (a .address)) j _ (c .before .x .given .1))
-
-same-length-6 : tie.Need-same-length-6
-same-length-6 c = search needs
-
-same-length-7 : tie.Need-same-length-7
-same-length-7 c = search needs
-
-same-length-8 : tie.Need-same-length-8
-same-length-8 c = search needs
-
-same-length-9 : tie.Need-same-length-9
-same-length-9 c = search needs
-
-same-length-10 : tie.Need-same-length-10
-same-length-10 c = search needs
-
 returns-2 : tie.Need-returns-2
 returns-2 c =
-    let a = c .before .before .before .before .before .before .before .before .before .before .before .before .before .before .before .before .before .before .before .before .before .before .before .before .before .before .before .before .before .before .before .before .before .before .before .before .args in
-    let j = judged (a .gc .registers) (a .seq) (mem (a .p0 .now) (a .p1 .now) (a .p2 .now) (a .p3 .now) (a .picture .now)) (a .address) (a .page) (c .before .before .before .before .before .before .before .before .before .before .before .before .before .before .before .before .before .before .before .before .judge-address .result) _ _ _ _ (c .before .before .before .before .before .before .before .before .before .before .before .before .before .before .before .before .before .before .before .before .before .before .before .before .before .before .before .before .before .fits-both .ensures) (c .before .before .before .before .before .before .before .before .before .before .before .before .before .before .before .before .before .before .before .before .before .before .before .shaped .ensures) (c .before .before .before .before .before .before .before .before .before .before .before .before .before .before .before .before .before .before .before .before .before .before .memory-map .ensures) (c .before .before .before .before .before .before .before .before .before .before .before .before .before .before .before .before .before .before .before .before .before .chain-odd-even .ensures) (c .before .before .before .before .before .before .before .before .before .before .before .before .before .before .before .before .before .before .before .before .judge-address .ensures) in
+    let a = c .before .before .before .before .before .before .before .before .before .before .before .before .before .before .before .before .before .before .before .before .before .before .before .before .before .before .before .before .before .before .before .args in
+    let j = judged (a .gc .registers) (a .seq) (mem (a .p0 .now) (a .p1 .now) (a .p2 .now) (a .p3 .now) (a .picture .now)) (a .address) (a .page) (c .before .before .before .before .before .before .before .before .before .before .before .before .before .before .before .before .before .before .before .before .judge-address .result) _ _ _ _ (c .before .before .before .before .before .before .before .before .before .before .before .before .before .before .before .before .before .before .before .before .before .before .before .before .fits-both .ensures) (c .before .before .before .before .before .before .before .before .before .before .before .before .before .before .before .before .before .before .before .before .before .before .before .shaped .ensures) (c .before .before .before .before .before .before .before .before .before .before .before .before .before .before .before .before .before .before .before .before .before .before .memory-map .ensures) (c .before .before .before .before .before .before .before .before .before .before .before .before .before .before .before .before .before .before .before .before .before .chain-odd-even .ensures) (c .before .before .before .before .before .before .before .before .before .before .before .before .before .before .before .before .before .before .before .before .judge-address .ensures) in
     let l = located _ _ _ _ (a0 (a .address)) j _ _ (c .before .before .before .before .before .before .before .before .before .before .before .before .before .before .before .before .before .before .offset .given .1) in
-    write-done (a .gc) (a .seq) (mem (a .p0 .now) (a .p1 .now) (a .p2 .now) (a .p3 .now) (a .picture .now)) (a .address) (a .page) (a .byte) _ _ _ _ (l .accepted) (l .offset) (c .wrote .ensures) (c .before .before .before .before .before .before .before .before .before .before .before .write-planes .ensures)
+    write-done (a .gc) (a .seq) (mem (a .p0 .now) (a .p1 .now) (a .p2 .now) (a .p3 .now) (a .picture .now)) (a .address) (a .page) (a .byte) _ _ _ _ (l .accepted) (l .offset) (c .write-done .ensures) (c .before .before .before .before .before .before .before .before .before .before .before .write-planes .ensures)
 
 pub cpu-write-u8-spec : {M : Type 1} → statement M
 cpu-write-u8-spec =
@@ -96,16 +81,11 @@ cpu-write-u8-spec =
     enum-known-x
     enum-known-offset
     write-planes-requires
-    wrote-requires
+    write-done-requires
+    returns
     same-length
     same-length-2
     same-length-3
     same-length-4
     same-length-5
-    returns
-    same-length-6
-    same-length-7
-    same-length-8
-    same-length-9
-    same-length-10
     returns-2)

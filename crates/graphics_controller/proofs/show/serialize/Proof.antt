@@ -5,13 +5,13 @@ use mathlib.Core.Path.{_∙_}
 use borrow.Author.Needs.{needs}
 use Rattle.machine.proofs.Laws.{refusal-some}
 use Rattle.machine.specs.Memory.{mem}
-use Rattle.vram.proofs.Laws.{as-told}
+use Rattle.judges.proofs.Told.{as-told}
 use Rattle.graphics_controller.proofs.Accesses.{show-accepted, show-refused, show-done}
 use Rattle.graphics_controller.proofs.show.serialize.Statement.{statement}
 use Rattle.graphics_controller.proofs.show.serialize.Tie as tie
 
-judge-requires : tie.Need-judge-requires
-judge-requires c κs = search needs
+judge-show-requires : tie.Need-judge-show-requires
+judge-show-requires c κs = search needs
 
 enum-known-x : tie.Need-enum-known-x
 enum-known-x c = search needs
@@ -33,11 +33,11 @@ enum-told c = search needs
 
 first-pixel-requires : tie.Need-first-pixel-requires
 first-pixel-requires c κs =
-    let h = show-accepted (c .before .before .before .before .before .before .before .before .args .gc .registers) (c .before .before .before .before .before .before .before .before .args .seq) (mem (c .before .before .before .before .before .before .before .before .args .p0 .now) (c .before .before .before .before .before .before .before .before .args .p1 .now) (c .before .before .before .before .before .before .before .before .args .p2 .now) (c .before .before .before .before .before .before .before .before .args .p3 .now) (c .before .before .before .before .before .before .before .before .args .picture .now)) _ (as-told (c .enum-told .given .1) (c .before .before .judge .ensures)) in omega arith
+    let h = show-accepted (c .before .before .before .before .before .before .before .before .args .gc .registers) (c .before .before .before .before .before .before .before .before .args .seq) (mem (c .before .before .before .before .before .before .before .before .args .p0 .now) (c .before .before .before .before .before .before .before .before .args .p1 .now) (c .before .before .before .before .before .before .before .before .args .p2 .now) (c .before .before .before .before .before .before .before .before .args .p3 .now) (c .before .before .before .before .before .before .before .before .args .picture .now)) _ (as-told (c .enum-told .given .1) (c .before .before .judge-show .ensures)) in omega arith
 
 add-end : tie.Need-add-end
 add-end c =
-    let h = show-accepted (c .before .before .before .before .before .before .before .before .before .args .gc .registers) (c .before .before .before .before .before .before .before .before .before .args .seq) (mem (c .before .before .before .before .before .before .before .before .before .args .p0 .now) (c .before .before .before .before .before .before .before .before .before .args .p1 .now) (c .before .before .before .before .before .before .before .before .before .args .p2 .now) (c .before .before .before .before .before .before .before .before .before .args .p3 .now) (c .before .before .before .before .before .before .before .before .before .args .picture .now)) _ (as-told (c .before .enum-told .given .1) (c .before .before .before .judge .ensures)) in omega arith
+    let h = show-accepted (c .before .before .before .before .before .before .before .before .before .args .gc .registers) (c .before .before .before .before .before .before .before .before .before .args .seq) (mem (c .before .before .before .before .before .before .before .before .before .args .p0 .now) (c .before .before .before .before .before .before .before .before .before .args .p1 .now) (c .before .before .before .before .before .before .before .before .before .args .p2 .now) (c .before .before .before .before .before .before .before .before .before .args .p3 .now) (c .before .before .before .before .before .before .before .before .before .args .picture .now)) _ (as-told (c .before .enum-told .given .1) (c .before .before .before .judge-show .ensures)) in omega arith
 
 sub-result-2 : tie.Need-sub-result-2
 sub-result-2 c = search needs
@@ -47,21 +47,21 @@ part-result-start-2 c = search needs
 
 part-result-end-2 : tie.Need-part-result-end-2
 part-result-end-2 c =
-    let h = show-accepted (c .before .before .before .before .before .before .before .before .before .args .gc .registers) (c .before .before .before .before .before .before .before .before .before .args .seq) (mem (c .before .before .before .before .before .before .before .before .before .args .p0 .now) (c .before .before .before .before .before .before .before .before .before .args .p1 .now) (c .before .before .before .before .before .before .before .before .before .args .p2 .now) (c .before .before .before .before .before .before .before .before .before .args .p3 .now) (c .before .before .before .before .before .before .before .before .before .args .picture .now)) _ (as-told (c .before .enum-told .given .1) (c .before .before .before .judge .ensures)) in omega arith
+    let h = show-accepted (c .before .before .before .before .before .before .before .before .before .args .gc .registers) (c .before .before .before .before .before .before .before .before .before .args .seq) (mem (c .before .before .before .before .before .before .before .before .before .args .p0 .now) (c .before .before .before .before .before .before .before .before .before .args .p1 .now) (c .before .before .before .before .before .before .before .before .before .args .p2 .now) (c .before .before .before .before .before .before .before .before .before .args .p3 .now) (c .before .before .before .before .before .before .before .before .before .args .picture .now)) _ (as-told (c .before .enum-told .given .1) (c .before .before .before .judge-show .ensures)) in omega arith
 
 returns : tie.Need-returns
 returns c =
-    show-refused (c .before .before .before .before .before .before .before .before .before .before .before .args .gc) (c .before .before .before .before .before .before .before .before .before .before .before .args .seq) (mem (c .before .before .before .before .before .before .before .before .before .before .before .args .p0 .now) (c .before .before .before .before .before .before .before .before .before .before .before .args .p1 .now) (c .before .before .before .before .before .before .before .before .before .before .before .args .p2 .now) (c .before .before .before .before .before .before .before .before .before .before .before .args .p3 .now) (c .before .before .before .before .before .before .before .before .before .before .before .args .picture .now)) _ _ (rw (c .before .refusal-number .ensures) (refusal-some (c .before .before .before .x .given .0 .0))) (c .before .refusal-number .ensures ∙ as-told (c .before .before .before .x .given .1) (c .before .before .before .before .before .judge .ensures))
+    show-refused (c .before .before .before .before .before .before .before .before .before .before .before .args .gc) (c .before .before .before .before .before .before .before .before .before .before .before .args .seq) (mem (c .before .before .before .before .before .before .before .before .before .before .before .args .p0 .now) (c .before .before .before .before .before .before .before .before .before .before .before .args .p1 .now) (c .before .before .before .before .before .before .before .before .before .before .before .args .p2 .now) (c .before .before .before .before .before .before .before .before .before .before .before .args .p3 .now) (c .before .before .before .before .before .before .before .before .before .before .before .args .picture .now)) _ _ (rw (c .before .refusal-number .ensures) (refusal-some (c .before .before .before .x .given .0 .0))) (c .before .refusal-number .ensures ∙ as-told (c .before .before .before .x .given .1) (c .before .before .before .before .before .judge-show .ensures))
 
 returns-2 : tie.Need-returns-2
 returns-2 c =
-    show-done (c .before .before .before .before .before .before .before .before .before .before .args .gc) (c .before .before .before .before .before .before .before .before .before .before .args .seq) (mem (c .before .before .before .before .before .before .before .before .before .before .args .p0 .now) (c .before .before .before .before .before .before .before .before .before .before .args .p1 .now) (c .before .before .before .before .before .before .before .before .before .before .args .p2 .now) (c .before .before .before .before .before .before .before .before .before .before .args .p3 .now) (c .before .before .before .before .before .before .before .before .before .before .args .picture .now)) _ _ (as-told (c .before .before .enum-told .given .1) (c .before .before .before .before .judge .ensures)) (rw (add-sub-cancel-left, c .before .first-pixel .ensures))
+    show-done (c .before .before .before .before .before .before .before .before .before .before .args .gc) (c .before .before .before .before .before .before .before .before .before .before .args .seq) (mem (c .before .before .before .before .before .before .before .before .before .before .args .p0 .now) (c .before .before .before .before .before .before .before .before .before .before .args .p1 .now) (c .before .before .before .before .before .before .before .before .before .before .args .p2 .now) (c .before .before .before .before .before .before .before .before .before .before .args .p3 .now) (c .before .before .before .before .before .before .before .before .before .before .args .picture .now)) _ _ (as-told (c .before .before .enum-told .given .1) (c .before .before .before .before .judge-show .ensures)) (rw (add-sub-cancel-left, c .before .first-pixel .ensures))
 
 pub serialize-spec : {M : Type 1} → statement M
 serialize-spec =
     tie.close
     (tie.spec
-    judge-requires
+    judge-show-requires
     enum-known-x
     refusal-number-requires
     sub-result

@@ -5,17 +5,17 @@ use borrow.Author.Needs.{needs}
 use Rattle.sequencer.proofs.direct.judge_plane.Statement.{statement}
 use Rattle.sequencer.proofs.direct.judge_plane.Tie as tie
 
-fits-requires : tie.Need-fits-requires
-fits-requires c κs = search needs
+fits-seq-requires : tie.Need-fits-seq-requires
+fits-seq-requires c κs = search needs
 
 returns : tie.Need-returns
-returns c = rw (sym (c .before .fits2 .ensures) ∙ not-true _ (c .if1 .taken))
+returns c = rw (sym (c .before .fits-seq .ensures) ∙ not-true _ (c .if1 .taken))
 
 judge-plane-requires : tie.Need-judge-plane-requires
 judge-plane-requires c κs = search needs
 
 returns-2 : tie.Need-returns-2
-returns-2 c = rw (sym (c .before .before .fits2 .ensures) ∙ not-false _ (c .before .if1 .left)) (c .judge-plane .ensures)
+returns-2 c = rw (sym (c .before .before .fits-seq .ensures) ∙ not-false _ (c .before .if1 .left)) (c .judge-plane .ensures)
 
 pub judge-plane-spec : {M : Type 1} → statement M
-judge-plane-spec = tie.close (tie.spec fits-requires returns judge-plane-requires returns-2)
+judge-plane-spec = tie.close (tie.spec fits-seq-requires returns judge-plane-requires returns-2)

@@ -16,11 +16,18 @@ enum-told c = search needs
 
 store-masked-requires : tie.Need-store-masked-requires
 store-masked-requires c κs =
-    let start = c .before .before .before .before .before .before .before .before .before .before .before .before .before .before .before .before .before .before in
+    let start = c .before .before .before .before .before .before .before .before .before .before .before .before .before in
     let m = mem (start .args .p0 .now) (start .args .p1 .now) (start .args .p2 .now) (start .args .p3 .now) (start .args .picture .now) in
     let a = accepted (start .args .seq) m (start .args .plane) (start .args .offset .0) (c .before .before .before .before .before .before .before .judge-plane .ensures) (c .before .before .before .before .before .enum-told .given .1) in
     let h = a .1 in
     (h .shaped, (h .offset, (h .plane, a .0)))
+
+returns : tie.Need-returns
+returns c =
+    let start = c .before .before .before .before .before .before .before .before .before in
+    let m = mem (start .args .p0 .now) (start .args .p1 .now) (start .args .p2 .now) (start .args .p3 .now) (start .args .picture .now) in
+    store-refused (start .args .seq) m (start .args .plane) (start .args .offset .0) (start .args .a0) (start .args .byte) (c .before .before .before .judge-plane .ensures)
+    (start .args .kind) _ (c .before .x .given .1)
 
 same-length : tie.Need-same-length
 same-length c = search needs
@@ -37,31 +44,9 @@ same-length-4 c = search needs
 same-length-5 : tie.Need-same-length-5
 same-length-5 c = search needs
 
-returns : tie.Need-returns
-returns c =
-    let start = c .before .before .before .before .before .before .before .before .before .before .before .before .before .before in
-    let m = mem (start .args .p0 .now) (start .args .p1 .now) (start .args .p2 .now) (start .args .p3 .now) (start .args .picture .now) in
-    store-refused (start .args .seq) m (start .args .plane) (start .args .offset .0) (start .args .a0) (start .args .byte) (c .before .before .before .judge-plane .ensures)
-    (start .args .kind) _ (c .before .x .given .1)
-
-same-length-6 : tie.Need-same-length-6
-same-length-6 c = search needs
-
-same-length-7 : tie.Need-same-length-7
-same-length-7 c = search needs
-
-same-length-8 : tie.Need-same-length-8
-same-length-8 c = search needs
-
-same-length-9 : tie.Need-same-length-9
-same-length-9 c = search needs
-
-same-length-10 : tie.Need-same-length-10
-same-length-10 c = search needs
-
 returns-2 : tie.Need-returns-2
 returns-2 c =
-    let start = c .before .before .before .before .before .before .before .before .before .before .before .before .before .before .before .before .before .before .before .before .before .before .before .before .before .before .before .before .before in
+    let start = c .before .before .before .before .before .before .before .before .before .before .before .before .before .before .before .before .before .before .before .before .before .before .before .before in
     let m = mem (start .args .p0 .now) (start .args .p1 .now) (start .args .p2 .now) (start .args .p3 .now) (start .args .picture .now) in
     store-done (start .args .seq) m (start .args .plane) (start .args .offset .0) (start .args .a0) (start .args .byte) (c .before .before .before .before .before .before .before .before .before .before .before .before .before .before .before .before .before .before .judge-plane .ensures)
     (start .args .kind) _ (c .before .before .before .before .before .before .before .before .before .before .before .before .before .before .before .before .enum-told .given .1) (c .before .before .before .before .before .before .before .before .before .before .store-masked .ensures)
@@ -74,15 +59,10 @@ plane-store-spec =
     enum-known-x
     enum-told
     store-masked-requires
+    returns
     same-length
     same-length-2
     same-length-3
     same-length-4
     same-length-5
-    returns
-    same-length-6
-    same-length-7
-    same-length-8
-    same-length-9
-    same-length-10
     returns-2)

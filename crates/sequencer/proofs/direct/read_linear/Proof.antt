@@ -8,19 +8,19 @@ use Rattle.machine.specs.Deeds.{perform, valueOf}
 use Rattle.sequencer.proofs.direct.read_linear.Statement.{statement}
 use Rattle.sequencer.proofs.direct.read_linear.Tie as tie
 
-fits-requires : tie.Need-fits-requires
-fits-requires c κs = search needs
+fits-seq-requires : tie.Need-fits-seq-requires
+fits-seq-requires c κs = search needs
 
 returns : tie.Need-returns
 unfolding directStep directPlan perform valueOf
-returns c = rw (sym (c .before .fits2 .ensures) ∙ not-true _ (c .if1 .taken))
+returns c = rw (sym (c .before .fits-seq .ensures) ∙ not-true _ (c .if1 .taken))
 
 read-linear-requires : tie.Need-read-linear-requires
 read-linear-requires c κs = search needs
 
 returns-2 : tie.Need-returns-2
 unfolding directStep directPlan vramStep vramPlan
-returns-2 c = rw (sym (c .before .before .fits2 .ensures) ∙ not-false _ (c .before .if1 .left)) (c .read-linear .ensures)
+returns-2 c = rw (sym (c .before .before .fits-seq .ensures) ∙ not-false _ (c .before .if1 .left)) (c .read-linear .ensures)
 
 pub read-linear-spec : {M : Type 1} → statement M
-read-linear-spec = tie.close (tie.spec fits-requires returns read-linear-requires returns-2)
+read-linear-spec = tie.close (tie.spec fits-seq-requires returns read-linear-requires returns-2)

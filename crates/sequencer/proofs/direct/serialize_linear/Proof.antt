@@ -8,8 +8,8 @@ use Rattle.machine.specs.Deeds.{perform, valueOf}
 use Rattle.sequencer.proofs.direct.serialize_linear.Statement.{statement}
 use Rattle.sequencer.proofs.direct.serialize_linear.Tie as tie
 
-fits-requires : tie.Need-fits-requires
-fits-requires c κs = search needs
+fits-seq-requires : tie.Need-fits-seq-requires
+fits-seq-requires c κs = search needs
 
 refusal-number-requires : tie.Need-refusal-number-requires
 refusal-number-requires c κs = search needs
@@ -26,7 +26,7 @@ part-result-end c = search needs
 returns : tie.Need-returns
 unfolding directStep directPlan perform valueOf
 returns c =
-    rw (c .before .refusal-number .ensures, sym (c .before .before .before .fits2 .ensures) ∙ not-true _ (c .before .before .if1 .taken))
+    rw (c .before .refusal-number .ensures, sym (c .before .before .before .fits-seq .ensures) ∙ not-true _ (c .before .before .if1 .taken))
 
 serialize-linear-requires : tie.Need-serialize-linear-requires
 serialize-linear-requires c κs = search needs
@@ -34,13 +34,13 @@ serialize-linear-requires c κs = search needs
 returns-2 : tie.Need-returns-2
 unfolding directStep directPlan vramStep vramPlan
 returns-2 c =
-    rw (sym (c .before .before .before .fits2 .ensures) ∙ not-false _ (c .before .before .if1 .left)) (c .serialize-linear .ensures)
+    rw (sym (c .before .before .before .fits-seq .ensures) ∙ not-false _ (c .before .before .if1 .left)) (c .serialize-linear .ensures)
 
 pub serialize-linear-spec : {M : Type 1} → statement M
 serialize-linear-spec =
     tie.close
     (tie.spec
-    fits-requires
+    fits-seq-requires
     refusal-number-requires
     sub-result
     part-result-start

@@ -1,7 +1,7 @@
 -- `store_masked` stores where the mask has the plane, by `store-let`, and nothing where it does not, by `store-stopped`.
 use borrow.Author.Needs.{needs}
 use Rattle.machine.specs.Memory.{mem}
-use Rattle.sequencer.proofs.Laws.{stored-at-lt, mask-has, mask-lacks}
+use Rattle.sequencer_registers.proofs.Laws.{stored-at-lt, mask-has, mask-lacks}
 use Rattle.sequencer.proofs.DirectLaws.{store-let, store-stopped}
 use Rattle.sequencer.proofs.direct.store_masked.Statement.{statement}
 use Rattle.sequencer.proofs.direct.store_masked.Tie as tie
@@ -18,18 +18,10 @@ shl-if1 c = search needs
 stored-at-requires : tie.Need-stored-at-requires
 stored-at-requires c κs = search needs
 
-byte-requires : tie.Need-byte-requires
-byte-requires c κs =
-    let start = c .before .before .before .before .before .before .before .before .before .before .before .before .before in
-    (start .pre .0, (stored-at-lt _ _ (c .before .before .before .before .before .stored-at .ensures) (start .pre .1 .0), start .pre .1 .1 .0))
-
-combined-requires : tie.Need-combined-requires
-combined-requires c κs = search needs
-
 store-requires : tie.Need-store-requires
 store-requires c κs =
-    let start = c .before .before .before .before .before .before .before .before .before .before .before .before .before .before .before .before .before .before .before .before in
-    (start .pre .0, (stored-at-lt _ _ (c .before .before .before .before .before .before .before .before .before .before .before .before .stored-at .ensures) (start .pre .1 .0), start .pre .1 .1 .0))
+    let start = c .before .before .before .before .before .before .before .before .before .before .before .before .before in
+    (start .pre .0, (stored-at-lt _ _ (c .before .before .before .before .before .stored-at .ensures) (start .pre .1 .0), start .pre .1 .1 .0))
 
 same-length : tie.Need-same-length
 same-length c = search needs
@@ -48,14 +40,10 @@ same-length-5 c = search needs
 
 returns : tie.Need-returns
 returns c =
-    let start = c .before .before .before .before .before .before .before .before .before .before .before .before .before .before .before .before .before .before .before .before .before .before .before .before .before .before .before .before .before .before .before in
+    let start = c .before .before .before .before .before .before .before .before .before .before .before .before .before .before .before .before .before .before .before .before .before .before .before .before in
     let m = mem (start .args .p0 .now) (start .args .p1 .now) (start .args .p2 .now) (start .args .p3 .now) (start .args .picture .now) in
-    store-let (start .args .kind) (start .args .seq) m (start .args .plane) (start .args .offset) (start .args .a0) (start .args .byte) (start .pre .1 .1 .0) _ _ _
-    (mask-has _ _ _ _ _ (c .before .before .before .before .before .before .before .before .before .before .before .before .before .before .before .before .before .before .before .before .before .before .before .before .before .mask .ensures) (start .pre .1 .1 .0) (c .before .before .before .before .before .before .before .before .before .before .before .before .before .before .before .before .before .before .before .before .before .before .before .before .if1 .taken))
-    (c .before .before .before .before .before .before .before .before .before .before .before .before .before .before .before .before .before .before .before .before .before .before .before .stored-at .ensures)
-    (c .before .before .before .before .before .before .before .before .before .before .before .before .before .before .before .before .before .byte .ensures)
-    (c .before .before .before .before .before .before .before .before .before .before .before .before .before .before .before .before .combined .ensures)
-    (c .before .before .before .before .before .before .before .before .before .before .store .ensures)
+    store-let (start .args .kind) (start .args .seq) m (start .args .plane) (start .args .offset) (start .args .a0) (start .args .byte) (start .pre .1 .1 .0) _
+    (mask-has _ _ _ _ _ (c .before .before .before .before .before .before .before .before .before .before .before .before .before .before .before .before .before .before .mask .ensures) (start .pre .1 .1 .0) (c .before .before .before .before .before .before .before .before .before .before .before .before .before .before .before .before .before .if1 .taken)) (c .before .before .before .before .before .before .before .before .before .before .before .before .before .before .before .before .stored-at .ensures) (search needs) (c .before .before .before .before .before .before .before .before .before .before .store .ensures)
 
 returns-2 : tie.Need-returns-2
 returns-2 c =
@@ -72,8 +60,6 @@ store-masked-spec =
     cast-if1
     shl-if1
     stored-at-requires
-    byte-requires
-    combined-requires
     store-requires
     same-length
     same-length-2

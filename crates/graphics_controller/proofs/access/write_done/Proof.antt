@@ -1,0 +1,25 @@
+-- `write_done` raises the write mode's counter alone: from `counted_write`, at the mode of the registers.
+use mathlib.Core.Path.{ap, _∙_}
+use borrow.Author.Needs.{needs}
+use Rattle.machine.specs.Calls.{counted, writeCounter}
+use Rattle.machine.specs.Graphics.{gcOf}
+use Rattle.machine.specs.declared.graphics.GraphicsControllerStats.{GraphicsControllerStats}
+use Rattle.machine.specs.declared.graphics.WriteMode.{WriteMode}
+use Rattle.machine.specs.Answers.{said, one, outcome}
+use Rattle.graphics_controller.proofs.access.write_done.Statement.{statement}
+use Rattle.graphics_controller.proofs.access.write_done.Tie as tie
+
+write-mode-requires : tie.Need-write-mode-requires
+write-mode-requires c κs = search needs
+
+counted-write-requires : tie.Need-counted-write-requires
+counted-write-requires c κs = search needs
+
+returns : tie.Need-returns
+returns c =
+    let g = c .before .before .before .before .args .gc in
+    ap (λ (s : GraphicsControllerStats). outcome (said 0 (one 0)) (gcOf (g .registers) s (g .latches)))
+    (c .before .counted-write .ensures ∙ ap (λ (w : WriteMode). counted (writeCounter w) (g .stats)) (c .before .before .write-mode .ensures))
+
+pub write-done-spec : {M : Type 1} → statement M
+write-done-spec = tie.close (tie.spec write-mode-requires counted-write-requires returns)

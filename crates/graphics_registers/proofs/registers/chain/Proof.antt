@@ -1,0 +1,27 @@
+-- `chain` answers Miscellaneous' bit 1, or 6: from `fits` and the field.
+use mathlib.Core.Path.{sym, _∙_}
+use borrow.Author.Tests.{not-true, not-false}
+use borrow.Author.Needs.{needs}
+use Rattle.machine.specs.Calls.{gcNumberOf, gcValue, gcNext}
+use Rattle.machine.specs.Step.{graphicsStep}
+use Rattle.graphics_registers.proofs.registers.chain.Statement.{statement}
+use Rattle.graphics_registers.proofs.registers.chain.Tie as tie
+
+fits-gc-requires : tie.Need-fits-gc-requires
+fits-gc-requires c κs = search needs
+
+returns : tie.Need-returns
+unfolding graphicsStep gcNumberOf gcValue
+returns c =
+    simp (sym (c .before .fits-gc .ensures) ∙ not-true _ (c .if1 .taken))
+
+chain-odd-even-requires : tie.Need-chain-odd-even-requires
+chain-odd-even-requires c κs = search needs
+
+returns-2 : tie.Need-returns-2
+unfolding graphicsStep gcNumberOf gcValue gcNext
+returns-2 c =
+    simp (sym (c .before .before .fits-gc .ensures) ∙ not-false _ (c .before .if1 .left), c .chain-odd-even .ensures)
+
+pub chain-spec : {M : Type 1} → statement M
+chain-spec = tie.close (tie.spec fits-gc-requires returns chain-odd-even-requires returns-2)

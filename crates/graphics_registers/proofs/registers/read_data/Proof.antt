@@ -1,0 +1,27 @@
+-- `read_data` answers the selected register as it was kept, or 6: from `fits` and `data_of`.
+use mathlib.Core.Path.{sym, _∙_}
+use borrow.Author.Tests.{not-true, not-false}
+use borrow.Author.Needs.{needs}
+use Rattle.machine.specs.Calls.{gcNumberOf, gcValue, gcNext}
+use Rattle.machine.specs.Step.{graphicsStep}
+use Rattle.graphics_registers.proofs.registers.read_data.Statement.{statement}
+use Rattle.graphics_registers.proofs.registers.read_data.Tie as tie
+
+fits-gc-requires : tie.Need-fits-gc-requires
+fits-gc-requires c κs = search needs
+
+returns : tie.Need-returns
+unfolding graphicsStep gcNumberOf gcValue
+returns c =
+    simp (sym (c .before .fits-gc .ensures) ∙ not-true _ (c .if1 .taken))
+
+data-of-requires : tie.Need-data-of-requires
+data-of-requires c κs = search needs
+
+returns-2 : tie.Need-returns-2
+unfolding graphicsStep gcNumberOf gcValue gcNext
+returns-2 c =
+    simp (sym (c .before .before .fits-gc .ensures) ∙ not-false _ (c .before .if1 .left), c .data-of .ensures)
+
+pub read-data-spec : {M : Type 1} → statement M
+read-data-spec = tie.close (tie.spec fits-gc-requires returns data-of-requires returns-2)

@@ -1,0 +1,31 @@
+-- `write_data` changes the selected register, or answers 6: from `fits`, `with_data` and `written`.
+use mathlib.Core.Path.{sym, _∙_}
+use borrow.Author.Tests.{not-true, not-false}
+use borrow.Author.Needs.{needs}
+use Rattle.machine.specs.Calls.{gcNumberOf, gcValue, gcNext}
+use Rattle.machine.specs.Step.{graphicsStep}
+use Rattle.graphics_registers.proofs.registers.write_data.Statement.{statement}
+use Rattle.graphics_registers.proofs.registers.write_data.Tie as tie
+
+fits-gc-requires : tie.Need-fits-gc-requires
+fits-gc-requires c κs = search needs
+
+returns : tie.Need-returns
+unfolding graphicsStep gcNumberOf gcValue
+returns c =
+    simp (sym (c .before .fits-gc .ensures) ∙ not-true _ (c .if1 .taken))
+
+with-data-requires : tie.Need-with-data-requires
+with-data-requires c κs = search needs
+
+written-requires : tie.Need-written-requires
+written-requires c κs = search needs
+
+returns-2 : tie.Need-returns-2
+unfolding graphicsStep gcNumberOf gcValue gcNext
+returns-2 c =
+    c .written .ensures ∙ simp (sym (c .before .before .before .fits-gc .ensures) ∙ not-false _ (c .before .before .if1 .left), c .before .with-data .ensures)
+
+pub write-data-spec : {M : Type 1} → statement M
+write-data-spec =
+    tie.close (tie.spec fits-gc-requires returns with-data-requires written-requires returns-2)

@@ -1,0 +1,20 @@
+// The way from an address to a plane offset, on the record alone.
+ghost use mathlib.Core.Path.{_≡_};
+ghost use Rattle.machine.specs.Answers.{outcome, mappedSaid};
+ghost use Rattle.machine.specs.Calls.{gcMapAddress};
+ghost use Rattle.machine.specs.Step.{graphicsStep};
+use judges::fits_gc;
+use judges::judge_address;
+use machine::GraphicsController;
+use machine::MappedAnswer;
+
+// Of any memory: every offset of 16 bits is within 65,536.
+pub fn map_address(gc: GraphicsController, address: usize, page: bool) -> MappedAnswer
+    ensures { λ r. ⌜ outcome (mappedSaid r) gc ≡ graphicsStep gc (gcMapAddress address page) ⌝ }
+{
+    let registers = gc.registers;
+    let fits = fits_gc(registers);
+    let map = registers.memory_map();
+    let chain = registers.chain_odd_even();
+    judge_address(fits, true, map, chain, 65536, address, page)
+}

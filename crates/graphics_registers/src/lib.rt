@@ -1,0 +1,15 @@
+// The controller without its memory: its ports, the fields that are asked for, and the way from an address to a plane offset. The record stands in `machine`.
+mod address;
+mod registers;
+
+pub use address::map_address;
+pub use registers::chain;
+pub use registers::chain4;
+pub use registers::memory_map;
+pub use registers::odd_even;
+pub use registers::read_address;
+pub use registers::read_data;
+pub use registers::reset;
+pub use registers::shift_mode;
+pub use registers::write_address;
+pub use registers::write_data;

@@ -1,0 +1,4 @@
+pub mod Held
+pub mod Shapes
+pub mod Told
+pub mod Windows

@@ -1,0 +1,63 @@
+-- What the judges test is what the machine tests: the lengths, and pixel places.
+use Prim.Native.Nat.{ℕ, _*_, _<_, _≤_}
+use native.Mathlib.Omega.{arith}
+use mathlib.Core.Path.{_≡_, refl}
+use mathlib.Core.Bool.{Bool, true, false, _&&_}
+use lib.Dec.{eqb, ltb, leb}
+use borrow.Author.Tests.{lt-ltb, le-ltb, le-leb, lt-leb, eq-eqb, ne-eqb, eqb-true}
+use Rattle.machine.specs.declared.shape.Shape.{Shape}
+use Rattle.machine.specs.Memory.{size, sound}
+use Rattle.machine.specs.Answers.{one}
+use Rattle.machine.specs.Calls.{placeNumber}
+use Rattle.machine.proofs.Laws.{both}
+
+-- ---- refusal 1: given where one of its tests fails, whatever the others say
+
+and-false : (a : Bool) → (a && false) ≡ false
+and-false true = refl
+and-false false = refl
+
+module _ (h : Shape) where
+  pub no-bytes : h .p0 ≡ 0 → false ≡ sound h
+  unfolding sound
+  no-bytes e = simp e
+
+  pub too-many : 65536 < h .p0 → false ≡ sound h
+  unfolding sound
+  too-many e = simp (lt-leb _ _ e, and-false)
+
+  pub other-1 : (h .p1 ≡ h .p0 → ⊥) → false ≡ sound h
+  unfolding sound
+  other-1 e = simp (ne-eqb _ _ e, and-false)
+
+  pub other-2 : (h .p2 ≡ h .p0 → ⊥) → false ≡ sound h
+  unfolding sound
+  other-2 e = simp (ne-eqb _ _ e, and-false)
+
+  pub other-3 : (h .p3 ≡ h .p0 → ⊥) → false ≡ sound h
+  unfolding sound
+  other-3 e = simp (ne-eqb _ _ e, and-false)
+
+  -- where all tests but the last hold, the last decides
+  pub sound-last : 0 < h .p0 → h .p0 ≤ 65536 → h .p1 ≡ h .p0 → h .p2 ≡ h .p0 → h .p3 ≡ h .p0 → eqb (h .picture) (8 * h .p0) ≡ sound h
+  unfolding sound
+  sound-last some most e1 e2 e3 = simp (lt-ltb _ _ some, le-leb _ _ most, eq-eqb _ _ e1, eq-eqb _ _ e2, eq-eqb _ _ e3)
+
+sound-picture : (h : Shape) → sound h ≡ true → h .picture ≡ 8 * h .p0
+unfolding sound
+sound-picture h e =
+    let a = both (ltb 0 (size h)) _ e in
+    let b = both (leb (size h) 65536) _ (a .1) in
+    let c = both (eqb (h .p1) (size h)) _ (b .1) in
+    let d = both (eqb (h .p2) (size h)) _ (c .1) in
+    eqb-true _ _ (both (eqb (h .p3) (size h)) _ (d .1) .1)
+
+-- where the lengths are sound the picture's is the bound of a place
+module _ (h : Shape) (e : sound h ≡ true) (j : ℕ) where
+  pub place-in : j < h .picture → 0 ≡ placeNumber h j
+  unfolding placeNumber
+  place-in l = simp (e, lt-ltb j (8 * h .p0) (omega (arith, sound-picture h e)))
+
+  pub place-out : h .picture ≤ j → 5 ≡ placeNumber h j
+  unfolding placeNumber
+  place-out l = simp (e, le-ltb j (8 * h .p0) (omega (arith, sound-picture h e)))

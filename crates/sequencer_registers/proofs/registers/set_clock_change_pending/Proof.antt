@@ -1,0 +1,23 @@
+-- `set_clock_change_pending` sets the mark, or 6 where the record does not fit.
+use mathlib.Core.Path.{sym, _∙_}
+use borrow.Author.Tests.{not-true, not-false}
+use borrow.Author.Needs.{needs}
+use Rattle.machine.specs.Sequencer.{withMark}
+use Rattle.machine.specs.Step.{sequencerStep}
+use Rattle.machine.specs.Calls.{seqNumberOf, seqValue, seqNext}
+use Rattle.sequencer_registers.proofs.registers.set_clock_change_pending.Statement.{statement}
+use Rattle.sequencer_registers.proofs.registers.set_clock_change_pending.Tie as tie
+
+fits-seq-requires : tie.Need-fits-seq-requires
+fits-seq-requires c κs = search needs
+
+returns : tie.Need-returns
+unfolding sequencerStep seqNumberOf seqValue
+returns c = simp (sym (c .before .fits-seq .ensures) ∙ not-true _ (c .if1 .taken))
+
+returns-2 : tie.Need-returns-2
+unfolding sequencerStep seqNumberOf seqValue seqNext withMark
+returns-2 c = simp (sym (c .before .fits-seq .ensures) ∙ not-false _ (c .if1 .left))
+
+pub set-clock-change-pending-spec : {M : Type 1} → statement M
+set-clock-change-pending-spec = tie.close (tie.spec fits-seq-requires returns returns-2)
