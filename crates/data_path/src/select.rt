@@ -10,7 +10,7 @@ pub fn selected_plane(registers: GraphicsRegisters, address: usize) -> usize
     ensures { λ r. ⌜ r ≡ selectedPlane registers address ⌝ }
 {
     let select = registers.read_map_select as usize;
-    let mode = registers.odd_even();
+    let mode = fields::gc::odd_even(registers);
     match mode {
         OddEvenModeComplement::Sequential => select,
         OddEvenModeComplement::OddEven => (select & !1) | (address & 1),
@@ -21,7 +21,7 @@ pub fn selected_plane(registers: GraphicsRegisters, address: usize) -> usize
 pub fn visited(registers: GraphicsRegisters, address: usize) -> u8
     ensures { λ r. ⌜ r ≡ ofBits 4 (λ p. bitOf (visits registers address p)) ⌝ }
 {
-    let mode = registers.odd_even();
+    let mode = fields::gc::odd_even(registers);
     match mode {
         OddEvenModeComplement::Sequential => 0b1111,
         OddEvenModeComplement::OddEven => { if address & 1 == 1 { 0b1010 } else { 0b0101 } }

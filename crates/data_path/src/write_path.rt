@@ -57,7 +57,12 @@ fn mode_0(registers: GraphicsRegisters, turned: u8, plane: u8, latch: u8) -> u8
     ensures { λ r. ⌜ r ≡ byteOf (λ i. masked registers i (pick (isOne (bit plane (registers .«enable_set_reset»))) (bit plane (registers .«set_reset»)) (bit i turned)) (bit i latch)) ⌝ }
 {
     let data = set_reset(registers, turned, plane);
-    logic_step(registers.function(), registers.bitmask, data, latch)
+    logic_step(
+        fields::gc::function(registers),
+        registers.bitmask,
+        data,
+        latch,
+    )
 }
 
 // Mode 2: the plane's bit of the byte, spread, and the logic step.
@@ -66,7 +71,12 @@ fn mode_2(registers: GraphicsRegisters, byte: u8, plane: u8, latch: u8) -> u8
     ensures { λ r. ⌜ r ≡ byteOf (λ i. masked registers i (bit plane byte) (bit i latch)) ⌝ }
 {
     let data = spread(byte, plane);
-    logic_step(registers.function(), registers.bitmask, data, latch)
+    logic_step(
+        fields::gc::function(registers),
+        registers.bitmask,
+        data,
+        latch,
+    )
 }
 
 // The byte that a plane is to have, if it is stored: mode 1 has the latch as it is, and mode 3 stores none.
@@ -93,7 +103,7 @@ fn plane_byte(
 pub fn written(mode: WriteMode, registers: GraphicsRegisters, latches: [u8; 4], byte: u8) -> [u8; 4]
     ensures { λ r. ⌜ r ≡ four (written mode registers byte latches) ⌝ }
 {
-    let turned = rotate_right_u8(byte, registers.rotate_count());
+    let turned = rotate_right_u8(byte, fields::gc::rotate_count(registers));
     let b0 = plane_byte(mode, registers, turned, byte, 0, latches[0]);
     let b1 = plane_byte(mode, registers, turned, byte, 1, latches[1]);
     let b2 = plane_byte(mode, registers, turned, byte, 2, latches[2]);

@@ -53,7 +53,7 @@ pub fn bytes(s: &[u8]) {
 // ---- answers: number and value
 
 fn refused(r: Refusal) {
-    number(machine::inner::refusal_number(r) as u64);
+    number(fields::refusal_number(r) as u64);
     number(0);
 }
 

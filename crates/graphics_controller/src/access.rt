@@ -58,7 +58,7 @@ fn read_done(gc: GraphicsController, latches: [u8; 4], address: usize) -> CpuByt
     ensures { λ r. ⌜ outcome (byteSaid (r .answer)) (r .gc) ≡ outcome (said 0 (one (readByte (readMode (gc .registers)) (gc .registers) address latches))) (gcOf (gc .registers) (counted (readCounter (readMode (gc .registers))) (gc .stats)) latches) ⌝ }
 {
     let registers = gc.registers;
-    let mode = registers.read_mode();
+    let mode = fields::gc::read_mode(registers);
     let byte = read_byte(mode, registers, latches, address);
     let stats = counted_read(mode, gc.stats);
     let next = GraphicsController {
@@ -96,8 +96,8 @@ pub fn cpu_read_u8(
     };
     let fits = fits_both(registers, seq);
     let good = shaped(shape);
-    let map = registers.memory_map();
-    let chain = registers.chain_odd_even();
+    let map = fields::gc::memory_map(registers);
+    let chain = fields::gc::chain_odd_even(registers);
     match judge_address(fits, good, map, chain, shape.p0, address, page) {
         MappedAnswer::Refused(x) => CpuByte {
             answer: ByteAnswer::Refused(x),
@@ -135,8 +135,8 @@ pub fn cpu_peek_u8(
     };
     let fits = fits_both(registers, seq);
     let good = shaped(shape);
-    let map = registers.memory_map();
-    let chain = registers.chain_odd_even();
+    let map = fields::gc::memory_map(registers);
+    let chain = fields::gc::chain_odd_even(registers);
     match judge_address(fits, good, map, chain, shape.p0, address, page) {
         MappedAnswer::Refused(x) => ByteAnswer::Refused(x),
         MappedAnswer::Done(offset, _) => {
@@ -151,7 +151,7 @@ fn write_done(gc: GraphicsController) -> CpuStore
     ensures { λ r. ⌜ outcome (storeSaid (r .answer)) (r .gc) ≡ outcome (said 0 (one 0)) (gcOf (gc .registers) (counted (writeCounter (writeMode (gc .registers))) (gc .stats)) (gc .latches)) ⌝ }
 {
     let registers = gc.registers;
-    let stats = counted_write(registers.write_mode(), gc.stats);
+    let stats = counted_write(fields::gc::write_mode(registers), gc.stats);
     let latches = gc.latches;
     let next = GraphicsController {
         registers,
@@ -189,8 +189,8 @@ pub fn cpu_write_u8(
     };
     let fits = fits_both(registers, seq);
     let good = shaped(shape);
-    let map = registers.memory_map();
-    let chain = registers.chain_odd_even();
+    let map = fields::gc::memory_map(registers);
+    let chain = fields::gc::chain_odd_even(registers);
     match judge_address(fits, good, map, chain, shape.p0, address, page) {
         MappedAnswer::Refused(x) => CpuStore {
             answer: StoreAnswer::Refused(x),

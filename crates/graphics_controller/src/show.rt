@@ -34,12 +34,12 @@ pub fn serialize<'a, 'b, 'c, 'd, 'p, 'n>(
     };
     match judge_show(gc.registers, seq, shape, offset) {
         DoneAnswer::Refused(x) => {
-            *number = machine::inner::refusal_number(x);
+            *number = fields::refusal_number(x);
             &picture[0..0]
         }
         DoneAnswer::Done => {
             *number = 0;
-            let first = machine::inner::first_pixel(offset);
+            let first = planes::inner::first_pixel(offset);
             let place = first.0;
             let end = place + 8;
             &picture[place..end]

@@ -101,7 +101,7 @@ pub fn write_planes(
     ensures { λ _. ⌜ after p0 p1 p2 p3 picture ≡ memoryAfter (writeDeed (writeMode (gc .registers)) (gc .registers) seq address at byte) (gc .latches) (before p0 p1 p2 p3 picture) ⌝ }
 {
     let registers = gc.registers;
-    let mode = registers.write_mode();
+    let mode = fields::gc::write_mode(registers);
     if let WriteMode::Invalid = mode {
         return;
     }

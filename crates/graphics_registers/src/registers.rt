@@ -32,7 +32,7 @@ pub fn chain(gc: GraphicsController) -> FlagAnswer
     if !fits_gc(registers) {
         return FlagAnswer::Refused(Refusal::State);
     }
-    FlagAnswer::Done(registers.chain_odd_even())
+    FlagAnswer::Done(fields::gc::chain_odd_even(registers))
 }
 
 fn is_chain4(mode: ShiftMode) -> bool
@@ -53,7 +53,7 @@ pub fn chain4(gc: GraphicsController) -> FlagAnswer
     if !fits_gc(registers) {
         return FlagAnswer::Refused(Refusal::State);
     }
-    FlagAnswer::Done(is_chain4(registers.shift_mode()))
+    FlagAnswer::Done(is_chain4(fields::gc::shift_mode(registers)))
 }
 
 pub fn memory_map(gc: GraphicsController) -> MapAnswer
@@ -63,7 +63,7 @@ pub fn memory_map(gc: GraphicsController) -> MapAnswer
     if !fits_gc(registers) {
         return MapAnswer::Refused(Refusal::State);
     }
-    MapAnswer::Done(registers.memory_map())
+    MapAnswer::Done(fields::gc::memory_map(registers))
 }
 
 pub fn odd_even(gc: GraphicsController) -> OddEvenAnswer
@@ -73,7 +73,7 @@ pub fn odd_even(gc: GraphicsController) -> OddEvenAnswer
     if !fits_gc(registers) {
         return OddEvenAnswer::Refused(Refusal::State);
     }
-    OddEvenAnswer::Done(registers.odd_even())
+    OddEvenAnswer::Done(fields::gc::odd_even(registers))
 }
 
 pub fn shift_mode(gc: GraphicsController) -> ShiftAnswer
@@ -83,7 +83,7 @@ pub fn shift_mode(gc: GraphicsController) -> ShiftAnswer
     if !fits_gc(registers) {
         return ShiftAnswer::Refused(Refusal::State);
     }
-    ShiftAnswer::Done(registers.shift_mode())
+    ShiftAnswer::Done(fields::gc::shift_mode(registers))
 }
 
 pub fn read_address(gc: GraphicsController) -> ByteAnswer

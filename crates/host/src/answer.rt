@@ -90,7 +90,7 @@ pub fn unknown() -> Answer
 fn refused(refusal: Refusal) -> Answer
     ensures { λ r. ⌜ r ≡ answerOf (refusalNumber refusal) 0 ⌝ }
 {
-    given(machine::inner::refusal_number(refusal), 0)
+    given(fields::refusal_number(refusal), 0)
 }
 
 pub fn unknown_shown() -> Shown
@@ -154,7 +154,7 @@ pub fn of_clock(answer: ClockAnswer) -> Clock
         ClockAnswer::Done(clock) => Clock { clock, number: 0 },
         ClockAnswer::Refused(x) => Clock {
             clock: 0,
-            number: machine::inner::refusal_number(x),
+            number: fields::refusal_number(x),
         },
     }
 }
@@ -228,7 +228,7 @@ pub fn of_mapped(answer: MappedAnswer) -> Mapped
         },
         MappedAnswer::Refused(x) => Mapped {
             offset: 0,
-            number: machine::inner::refusal_number(x),
+            number: fields::refusal_number(x),
             a0: false,
         },
     }

@@ -39,7 +39,7 @@ pub fn judge_show(
     if !shaped(shape) {
         return DoneAnswer::Refused(Refusal::Memory);
     }
-    if !shows(registers.shift_mode()) {
+    if !shows(fields::gc::shift_mode(registers)) {
         return DoneAnswer::Refused(Refusal::Shift);
     }
     if offset.0 >= shape.p0 {

@@ -1,4 +1,3 @@
-pub mod Fields
 pub mod Laws
 pub mod Isolation
 pub mod NoPrice

@@ -1,7 +1,6 @@
-// The graphics controller: its registers as kept bytes, their fields, its counters and latches.
+// The graphics controller: its registers as kept bytes, its counters and latches.
 ghost use mathlib.Core.Path.{_≡_};
-ghost use mathlib.Core.Bool.{Bool};
-ghost use Rattle.machine.specs.Graphics.{freshGc, writeMode, readMode, oddEven, shiftMode, rotateCount, logicFunction, chained, memoryMap};
+ghost use Rattle.machine.specs.Graphics.{freshGc};
 
 // The registers that the address register selects, in the order of their numbers.
 pub enum GraphicsRegister {
@@ -82,96 +81,6 @@ pub struct GraphicsRegisters {
     pub miscellaneous: u8,
     pub color_dont_care: u8,
     pub bitmask: u8,
-}
-
-impl GraphicsRegisters {
-    // Data Rotate, bits 0-2.
-    pub fn rotate_count(self) -> u8
-        ensures { λ r. ⌜ r ≡ rotateCount self ⌝ }
-    {
-        self.data_rotate & 7
-    }
-
-    // Data Rotate, bits 3-4.
-    pub fn function(self) -> LogicFunction
-        ensures { λ r. ⌜ r ≡ logicFunction self ⌝ }
-    {
-        let field = (self.data_rotate >> 3) & 3;
-        match field {
-            0 => LogicFunction::Unmodified,
-            1 => LogicFunction::And,
-            2 => LogicFunction::Or,
-            _ => LogicFunction::Xor,
-        }
-    }
-
-    // Mode, bits 0-1.
-    pub fn write_mode(self) -> WriteMode
-        ensures { λ r. ⌜ r ≡ writeMode self ⌝ }
-    {
-        let field = self.mode & 3;
-        match field {
-            0 => WriteMode::Mode0,
-            1 => WriteMode::Mode1,
-            2 => WriteMode::Mode2,
-            _ => WriteMode::Invalid,
-        }
-    }
-
-    // Mode, bit 3.
-    pub fn read_mode(self) -> ReadMode
-        ensures { λ r. ⌜ r ≡ readMode self ⌝ }
-    {
-        let field = (self.mode >> 3) & 1;
-        match field {
-            0 => ReadMode::ReadSelectedPlane,
-            _ => ReadMode::ReadComparedPlanes,
-        }
-    }
-
-    // Mode, bit 4.
-    pub fn odd_even(self) -> OddEvenModeComplement
-        ensures { λ r. ⌜ r ≡ oddEven self ⌝ }
-    {
-        let field = (self.mode >> 4) & 1;
-        match field {
-            0 => OddEvenModeComplement::Sequential,
-            _ => OddEvenModeComplement::OddEven,
-        }
-    }
-
-    // Mode, bits 5-6.
-    pub fn shift_mode(self) -> ShiftMode
-        ensures { λ r. ⌜ r ≡ shiftMode self ⌝ }
-    {
-        let field = (self.mode >> 5) & 3;
-        match field {
-            0 => ShiftMode::Standard,
-            1 => ShiftMode::CGACompatible,
-            2 => ShiftMode::Chain4,
-            _ => ShiftMode::Unused,
-        }
-    }
-
-    // Miscellaneous, bit 1.
-    pub fn chain_odd_even(self) -> bool
-        ensures { λ r. ⌜ r ≡ chained self ⌝ }
-    {
-        (self.miscellaneous >> 1) & 1 == 1
-    }
-
-    // Miscellaneous, bits 2-3.
-    pub fn memory_map(self) -> MemoryMap
-        ensures { λ r. ⌜ r ≡ memoryMap self ⌝ }
-    {
-        let field = (self.miscellaneous >> 2) & 3;
-        match field {
-            0 => MemoryMap::A0000_128k,
-            1 => MemoryMap::A0000_64K,
-            2 => MemoryMap::B0000_32K,
-            _ => MemoryMap::B8000_32K,
-        }
-    }
 }
 
 // The accepted reads and writes of the processor, by mode; each count goes back to 0 after 4,294,967,295.

@@ -1,7 +1,6 @@
 // The types of the port: places, answers, the two records. What every call does to them is said in specs/.
 mod answer;
 mod graphics;
-pub mod inner;
 mod place;
 mod sequencer;
 mod shape;

@@ -1,6 +1,6 @@
-// The sequencer: its registers as kept bytes, their fields, and the clock that the emulator polls.
+// The sequencer: its registers as kept bytes, and the clock that the emulator polls.
 ghost use mathlib.Core.Path.{_≡_};
-ghost use Rattle.machine.specs.Sequencer.{freshSeq, seqOddEven, chainFour};
+ghost use Rattle.machine.specs.Sequencer.{freshSeq};
 
 pub enum SequencerRegister {
     Reset,
@@ -46,23 +46,5 @@ impl Sequencer {
             clock_divisor: 1,
             char_clock: 9,
         }
-    }
-
-    // Memory Mode, bit 2.
-    pub fn odd_even(self) -> OddEvenMode
-        ensures { λ r. ⌜ r ≡ seqOddEven self ⌝ }
-    {
-        let field = (self.memory_mode >> 2) & 1;
-        match field {
-            0 => OddEvenMode::OddEven,
-            _ => OddEvenMode::Sequential,
-        }
-    }
-
-    // Memory Mode, bit 3.
-    pub fn chain_four(self) -> bool
-        ensures { λ r. ⌜ r ≡ chainFour self ⌝ }
-    {
-        (self.memory_mode >> 3) & 1 == 1
     }
 }

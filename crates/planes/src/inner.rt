@@ -9,6 +9,7 @@ ghost use Rattle.machine.specs.Memory.{lent, before, after, Shaped};
 ghost use Rattle.machine.specs.Deeds.{byte as byteOfPlane, laid, remade};
 ghost use Rattle.planes.specs.Stores.{combines};
 use crate::kind::PlaneStore;
+use machine::PixelPlace;
 use machine::PlaneOffset;
 
 // A plane's byte.
@@ -77,6 +78,14 @@ pub fn lay(
     p3[at] = combined(kind, x, p3[at]);
 }
 
+// The place of the first of an offset's eight pixels: the one conversion between the two counts.
+pub fn first_pixel(offset: PlaneOffset) -> PixelPlace
+    requires { ⌜ offset .0 ≤ 65536 ⌝ }
+    ensures { λ r. ⌜ r .0 ≡ 8 * offset .0 ⌝ }
+{
+    PixelPlace(8 * offset.0)
+}
+
 // The pixels that four planes' bytes have at bits s and s + 4, in the low and the high half: plane p's bit becomes bit p of each.
 fn two_pixels(b0: u8, b1: u8, b2: u8, b3: u8, s: u8) -> u8
     requires { ⌜ s < 8 ⌝ }
@@ -98,7 +107,7 @@ pub fn remake(p0: &[u8], p1: &[u8], p2: &[u8], p3: &[u8], picture: &mut [u8], at
     let b1 = p1[at];
     let b2 = p2[at];
     let b3 = p3[at];
-    let first = machine::inner::first_pixel(PlaneOffset(at));
+    let first = first_pixel(PlaneOffset(at));
     let place = first.0;
     let bits73 = two_pixels(b0, b1, b2, b3, 3);
     let bits62 = two_pixels(b0, b1, b2, b3, 2);

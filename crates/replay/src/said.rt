@@ -30,7 +30,7 @@ pub fn given(value: u64) -> Said {
 }
 
 fn refused(refusal: Refusal) -> Said {
-    Said::Value(machine::inner::refusal_number(refusal), 0)
+    Said::Value(fields::refusal_number(refusal), 0)
 }
 
 pub fn byte(answer: ByteAnswer) -> Said {
@@ -121,7 +121,7 @@ pub fn shift(answer: ShiftAnswer) -> Said {
 pub fn mapped(answer: MappedAnswer) -> Said {
     match answer {
         MappedAnswer::Done(offset, a0) => Said::Mapped(0, offset.0 as u64, bit(a0)),
-        MappedAnswer::Refused(r) => Said::Mapped(machine::inner::refusal_number(r), 0, 0),
+        MappedAnswer::Refused(r) => Said::Mapped(fields::refusal_number(r), 0, 0),
     }
 }
 

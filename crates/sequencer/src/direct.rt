@@ -184,7 +184,7 @@ pub fn serialize_linear<'a, 'b, 'c, 'd, 'p, 'n>(
     ensures { λ r. ⌜ outcome (partSaid (now (number .exit)) (now r)) (before p0 p1 p2 p3 picture) ≡ directStep seq (before p0 p1 p2 p3 picture) (seqSerializeLinear (offset .0)) ⌝ }
 {
     if !judges::fits_seq(seq) {
-        *number = machine::inner::refusal_number(Refusal::State);
+        *number = fields::refusal_number(Refusal::State);
         return &picture[0..0];
     }
     vram::serialize_linear(p0, p1, p2, p3, picture, offset, number)

@@ -1,4 +1,5 @@
 // What the cases print: text, numbers, and answers as number and value.
+use fields::refusal_number;
 use libc::STDOUT_FILENO;
 use machine::ByteAnswer;
 use machine::ClockAnswer;
@@ -7,7 +8,6 @@ use machine::FlagAnswer;
 use machine::Sequencer;
 use machine::SequencerRegister;
 use machine::StoreAnswer;
-use machine::inner::refusal_number;
 
 pub fn text(s: &[u8]) {
     io::write_all(STDOUT_FILENO, s);

@@ -16,10 +16,10 @@ pub fn mask(seq: Sequencer, offset: usize, a0: bool) -> u8
 {
     let map_mask = seq.map_mask;
     let shift = a0 as u8;
-    if seq.chain_four() {
+    if fields::seq::chain_four(seq) {
         return 1 << (offset & 0x03);
     }
-    let odd_even = seq.odd_even();
+    let odd_even = fields::seq::odd_even(seq);
     match odd_even {
         OddEvenMode::Sequential => map_mask,
         OddEvenMode::OddEven => map_mask & (ODD_EVEN_MASK << shift),
@@ -30,7 +30,7 @@ pub fn mask(seq: Sequencer, offset: usize, a0: bool) -> u8
 pub fn stored_at(seq: Sequencer, offset: usize) -> usize
     ensures { λ r. ⌜ r ≡ storedAt seq offset ⌝ }
 {
-    if seq.chain_four() {
+    if fields::seq::chain_four(seq) {
         return offset & !0x03;
     }
     offset
@@ -40,7 +40,7 @@ pub fn stored_at(seq: Sequencer, offset: usize) -> usize
 pub fn gc_read_at(seq: Sequencer, offset: usize) -> usize
     ensures { λ r. ⌜ r ≡ gcReadAt seq offset ⌝ }
 {
-    let odd_even = seq.odd_even();
+    let odd_even = fields::seq::odd_even(seq);
     match odd_even {
         OddEvenMode::OddEven => offset,
         OddEvenMode::Sequential => stored_at(seq, offset),

@@ -47,7 +47,7 @@ fn byte(value: u8) -> Told
 fn refused(refusal: Refusal) -> Told
     ensures { λ r. ⌜ toldSaid r ≡ said (refusalNumber refusal) (one 0) ⌝ }
 {
-    let number = machine::inner::refusal_number(refusal);
+    let number = fields::refusal_number(refusal);
     Told {
         number,
         handed: Handed::Byte(0),

@@ -27,21 +27,21 @@ fn pair(refusal: u8, value: u8) {
 pub fn byte_answer(answer: ByteAnswer) {
     match answer {
         ByteAnswer::Done(x) => pair(0, x),
-        ByteAnswer::Refused(r) => pair(machine::inner::refusal_number(r), 0),
+        ByteAnswer::Refused(r) => pair(fields::refusal_number(r), 0),
     }
 }
 
 pub fn store_answer(answer: StoreAnswer) {
     match answer {
         StoreAnswer::Done => pair(0, 0),
-        StoreAnswer::Refused(r) => pair(machine::inner::refusal_number(r), 0),
+        StoreAnswer::Refused(r) => pair(fields::refusal_number(r), 0),
     }
 }
 
 pub fn done_answer(answer: DoneAnswer) {
     match answer {
         DoneAnswer::Done => pair(0, 0),
-        DoneAnswer::Refused(r) => pair(machine::inner::refusal_number(r), 0),
+        DoneAnswer::Refused(r) => pair(fields::refusal_number(r), 0),
     }
 }
 

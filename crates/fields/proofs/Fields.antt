@@ -1,4 +1,4 @@
--- A field of a kept byte, as the code takes it out: shifted down and masked. What the proofs of the field methods cite.
+-- A field of a kept byte, as the code takes it out: shifted down and masked. What the proofs of the fields cite.
 use Prim.Native.Nat.{ℕ, _-_, _/_, _%_, _^_}
 use native.Mathlib.Omega.{arith}
 use mathlib.Core.Path.{_≡_, sym, ap, _∙_}

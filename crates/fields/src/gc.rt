@@ -1,0 +1,98 @@
+// The fields of the controller's kept bytes: a shift and a mask each, or the byte as it is.
+ghost use mathlib.Core.Path.{_≡_};
+ghost use Rattle.machine.specs.Graphics.{rotateCount, logicFunction, writeMode, readMode, oddEven, shiftMode, chained, memoryMap};
+use machine::GraphicsRegisters;
+use machine::LogicFunction;
+use machine::MemoryMap;
+use machine::OddEvenModeComplement;
+use machine::ReadMode;
+use machine::ShiftMode;
+use machine::WriteMode;
+
+// Data Rotate, bits 0-2.
+pub fn rotate_count(registers: GraphicsRegisters) -> u8
+    ensures { λ r. ⌜ r ≡ rotateCount registers ⌝ }
+{
+    registers.data_rotate & 7
+}
+
+// Data Rotate, bits 3-4.
+pub fn function(registers: GraphicsRegisters) -> LogicFunction
+    ensures { λ r. ⌜ r ≡ logicFunction registers ⌝ }
+{
+    let field = (registers.data_rotate >> 3) & 3;
+    match field {
+        0 => LogicFunction::Unmodified,
+        1 => LogicFunction::And,
+        2 => LogicFunction::Or,
+        _ => LogicFunction::Xor,
+    }
+}
+
+// Mode, bits 0-1.
+pub fn write_mode(registers: GraphicsRegisters) -> WriteMode
+    ensures { λ r. ⌜ r ≡ writeMode registers ⌝ }
+{
+    let field = registers.mode & 3;
+    match field {
+        0 => WriteMode::Mode0,
+        1 => WriteMode::Mode1,
+        2 => WriteMode::Mode2,
+        _ => WriteMode::Invalid,
+    }
+}
+
+// Mode, bit 3.
+pub fn read_mode(registers: GraphicsRegisters) -> ReadMode
+    ensures { λ r. ⌜ r ≡ readMode registers ⌝ }
+{
+    let field = (registers.mode >> 3) & 1;
+    match field {
+        0 => ReadMode::ReadSelectedPlane,
+        _ => ReadMode::ReadComparedPlanes,
+    }
+}
+
+// Mode, bit 4.
+pub fn odd_even(registers: GraphicsRegisters) -> OddEvenModeComplement
+    ensures { λ r. ⌜ r ≡ oddEven registers ⌝ }
+{
+    let field = (registers.mode >> 4) & 1;
+    match field {
+        0 => OddEvenModeComplement::Sequential,
+        _ => OddEvenModeComplement::OddEven,
+    }
+}
+
+// Mode, bits 5-6.
+pub fn shift_mode(registers: GraphicsRegisters) -> ShiftMode
+    ensures { λ r. ⌜ r ≡ shiftMode registers ⌝ }
+{
+    let field = (registers.mode >> 5) & 3;
+    match field {
+        0 => ShiftMode::Standard,
+        1 => ShiftMode::CGACompatible,
+        2 => ShiftMode::Chain4,
+        _ => ShiftMode::Unused,
+    }
+}
+
+// Miscellaneous, bit 1.
+pub fn chain_odd_even(registers: GraphicsRegisters) -> bool
+    ensures { λ r. ⌜ r ≡ chained registers ⌝ }
+{
+    (registers.miscellaneous >> 1) & 1 == 1
+}
+
+// Miscellaneous, bits 2-3.
+pub fn memory_map(registers: GraphicsRegisters) -> MemoryMap
+    ensures { λ r. ⌜ r ≡ memoryMap registers ⌝ }
+{
+    let field = (registers.miscellaneous >> 2) & 3;
+    match field {
+        0 => MemoryMap::A0000_128k,
+        1 => MemoryMap::A0000_64K,
+        2 => MemoryMap::B0000_32K,
+        _ => MemoryMap::B8000_32K,
+    }
+}
