@@ -1,86 +1,26 @@
--- What the host's proofs cite: registers by number and back, and a call on records that are known, or not.
-use Prim.Native.Nat.{ℕ, zero, suc, _<_, _≤_}
-use native.Mathlib.Omega.{arith}
+-- What the host's proofs cite: a call on records that are known, or not, and what a write leaves as it was.
+use Prim.Native.Nat.{ℕ, zero, suc}
 use mathlib.Core.Path.{_≡_, refl, sym, ap, subst, _∙_}
 use mathlib.Core.Bool.{Bool, true, false}
-use mathlib.Core.List.{List, [], _∷_}
-use lib.Dec.{leb}
-use lib.ListN.{length, getD}
-use borrow.Author.Tests.{leb-true}
-use Rattle.machine.specs.declared.graphics.GraphicsRegister.the-variants.{BitMask}
 use Rattle.machine.specs.declared.graphics.GraphicsController.{GraphicsController}
 use Rattle.machine.specs.declared.graphics.WriteMode.{WriteMode}
 use Rattle.machine.specs.declared.graphics.WriteMode.the-variants.{Mode0, Mode1, Mode2, Invalid}
 use Rattle.machine.specs.declared.sequencer.Sequencer.{Sequencer}
 use Rattle.machine.specs.Memory.{Memory, shape}
 use Rattle.machine.specs.Answers.{Value, Said, said, Outcome, outcome, answered}
-use Rattle.machine.specs.Graphics.{selects, registerNumber, gcOf, writeMode}
-use Rattle.machine.specs.Sequencer.{selectsSeq, seqNumber}
+use Rattle.machine.specs.Graphics.{gcOf, writeMode}
 use Rattle.machine.specs.Address.{offset}
 use Rattle.machine.specs.Deeds.{latchesAfter, memoryAfter, valueOf}
 use Rattle.machine.specs.Calls.{SequencerCall, DirectCall, GraphicsCall, CpuCall, cpuWrite, CpuPlan, cpuPlan, writeDeed}
 use Rattle.machine.specs.Step.{Device, device, cpuAfter, cpuPerform, sequencerStep, directStep, graphicsStep, cpuStep}
-use Rattle.machine.proofs.Laws.{both}
-use Rattle.host.specs.declared.record.StatsRecord.{StatsRecord}
-use Rattle.host.specs.declared.record.ControllerRecord.{ControllerRecord}
-use Rattle.host.specs.declared.record.SequencerRecord.{SequencerRecord}
-use Rattle.host.specs.declared.answer.Shown.{Shown}
-use Rattle.host.specs.Records.{knownGc, knownSeq, known, controllerOf, recordOf, sequencerOf, sequencerRecordOf, statsRecordOf, withStats}
-use Rattle.host.specs.Hosted.{shownOf, held, heldOf, hosted, sequencerHosted, directHosted, graphicsHosted, cpuHosted}
-
--- ---- registers by number
-
--- the last register stands for every number from its own on
-pub selects-last : (n : ℕ) → 7 < n → BitMask ≡ selects n BitMask
-unfolding selects
-selects-last zero h = absurd (omega arith)
-selects-last (suc zero) h = absurd (omega arith)
-selects-last (suc (suc zero)) h = absurd (omega arith)
-selects-last (suc (suc (suc zero))) h = absurd (omega arith)
-selects-last (suc (suc (suc (suc zero)))) h = absurd (omega arith)
-selects-last (suc (suc (suc (suc (suc zero))))) h = absurd (omega arith)
-selects-last (suc (suc (suc (suc (suc (suc zero)))))) h = absurd (omega arith)
-selects-last (suc (suc (suc (suc (suc (suc (suc zero))))))) h = absurd (omega arith)
-selects-last (suc (suc (suc (suc (suc (suc (suc (suc zero)))))))) h = refl
-selects-last (suc (suc (suc (suc (suc (suc (suc (suc (suc n))))))))) h = refl
-
--- the number is none of those of the first four arms
-pub four : (n : ℕ) → (((Unit {0} × (n ≡ 0 → ⊥)) × (n ≡ 1 → ⊥)) × (n ≡ 2 → ⊥)) × (n ≡ 3 → ⊥) → 3 < n
-four n h = omega (arith, h .1, h .0 .1, h .0 .0 .1, h .0 .0 .0 .1)
-
--- a register's number, read as a register, is its number again
-number-back : (n : ℕ) → n ≤ 8 → registerNumber (selects n BitMask) ≡ n
-unfolding selects
-number-back zero h = refl
-number-back (suc zero) h = refl
-number-back (suc (suc zero)) h = refl
-number-back (suc (suc (suc zero))) h = refl
-number-back (suc (suc (suc (suc zero)))) h = refl
-number-back (suc (suc (suc (suc (suc zero))))) h = refl
-number-back (suc (suc (suc (suc (suc (suc zero)))))) h = refl
-number-back (suc (suc (suc (suc (suc (suc (suc zero))))))) h = refl
-number-back (suc (suc (suc (suc (suc (suc (suc (suc zero)))))))) h = refl
-number-back (suc (suc (suc (suc (suc (suc (suc (suc (suc n))))))))) h = absurd (omega arith)
-
-seq-number-back : (n : ℕ) → n ≤ 5 → seqNumber (selectsSeq n) ≡ n
-unfolding selectsSeq
-seq-number-back zero h = refl
-seq-number-back (suc zero) h = refl
-seq-number-back (suc (suc zero)) h = refl
-seq-number-back (suc (suc (suc zero))) h = refl
-seq-number-back (suc (suc (suc (suc zero)))) h = refl
-seq-number-back (suc (suc (suc (suc (suc zero))))) h = refl
-seq-number-back (suc (suc (suc (suc (suc (suc n)))))) h = absurd (omega arith)
-
--- a record of known number is kept as it is
-pub record-back : (g : ControllerRecord) → true ≡ knownGc g → recordOf (controllerOf g) ≡ g
-record-back g e = rw (number-back (g .«register_selected») (leb-true _ _ (sym e)))
-
-pub sequencer-back : (s : SequencerRecord) → true ≡ knownSeq s → sequencerRecordOf (sequencerOf s) ≡ s
-sequencer-back s e = rw (seq-number-back (s .«register_selected») (leb-true _ _ (sym e)))
-
-pub known-gc : (g : ControllerRecord) (s : SequencerRecord) → true ≡ known g s → true ≡ knownGc g
-known-gc g s e = sym (both (knownGc g) (knownSeq s) (sym e) .0)
+use Rattle.host_records.specs.declared.record.StatsRecord.{StatsRecord}
+use Rattle.host_records.specs.declared.record.ControllerRecord.{ControllerRecord}
+use Rattle.host_records.specs.declared.record.SequencerRecord.{SequencerRecord}
+use Rattle.host_records.specs.declared.answer.Shown.{Shown}
+use Rattle.host_records.specs.Records.{knownGc, knownSeq, known, controllerOf, recordOf, sequencerOf, sequencerRecordOf, statsRecordOf, withStats}
+use Rattle.host_records.specs.Answers.{shownOf}
+use Rattle.host_records.proofs.Laws.{record-back, sequencer-back, known-gc}
+use Rattle.host.specs.Hosted.{held, heldOf, hosted, sequencerHosted, directHosted, graphicsHosted, cpuHosted}
 
 -- ---- calls on the sequencer's record
 
@@ -141,19 +81,6 @@ module _ (g : ControllerRecord) (s : SequencerRecord) (m : Memory) (v : Value) (
 -- the answer of a show, by value
 pub shown-of : {S : Type 0} (a : Said) (t : S) (o : Outcome S) (r : Shown) → r ≡ shownOf a → outcome a t ≡ o → r ≡ shownOf (o .answer)
 shown-of {S = S} a t o r f p = f ∙ ap (λ (o : Outcome S). shownOf (o .answer)) p
-
--- eight entries are the list
-pub eight : (l : List ℕ) → length l ≡ 8 → getD l 0 0 ∷ getD l 1 0 ∷ getD l 2 0 ∷ getD l 3 0 ∷ getD l 4 0 ∷ getD l 5 0 ∷ getD l 6 0 ∷ getD l 7 0 ∷ [] ≡ l
-eight [] h = absurd (omega (arith, h))
-eight (x0 ∷ []) h = absurd (omega (arith, h))
-eight (x0 ∷ x1 ∷ []) h = absurd (omega (arith, h))
-eight (x0 ∷ x1 ∷ x2 ∷ []) h = absurd (omega (arith, h))
-eight (x0 ∷ x1 ∷ x2 ∷ x3 ∷ []) h = absurd (omega (arith, h))
-eight (x0 ∷ x1 ∷ x2 ∷ x3 ∷ x4 ∷ []) h = absurd (omega (arith, h))
-eight (x0 ∷ x1 ∷ x2 ∷ x3 ∷ x4 ∷ x5 ∷ []) h = absurd (omega (arith, h))
-eight (x0 ∷ x1 ∷ x2 ∷ x3 ∷ x4 ∷ x5 ∷ x6 ∷ []) h = absurd (omega (arith, h))
-eight (x0 ∷ x1 ∷ x2 ∷ x3 ∷ x4 ∷ x5 ∷ x6 ∷ x7 ∷ []) h = refl
-eight (x0 ∷ x1 ∷ x2 ∷ x3 ∷ x4 ∷ x5 ∷ x6 ∷ x7 ∷ x8 ∷ l) h = absurd (omega (arith, h))
 
 -- ---- a write moves counters and memory alone
 

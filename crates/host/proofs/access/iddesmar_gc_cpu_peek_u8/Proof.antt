@@ -3,7 +3,7 @@ use mathlib.Core.Path.{refl, sym, ap, _∙_}
 use borrow.Author.Tests.{not-true, not-false}
 use Rattle.machine.specs.Memory.{mem}
 use Rattle.machine.specs.Answers.{one}
-use Rattle.host.specs.Hosted.{answerSaid}
+use Rattle.host_records.specs.Answers.{answerSaid}
 use Rattle.host.proofs.Laws.{cpu-unknown, cpu-asked}
 use borrow.Author.Needs.{needs}
 use Rattle.host.proofs.access.iddesmar_gc_cpu_peek_u8.Statement.{statement}

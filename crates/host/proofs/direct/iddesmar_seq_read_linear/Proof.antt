@@ -3,7 +3,7 @@ use mathlib.Core.Path.{sym, ap, _∙_}
 use borrow.Author.Tests.{not-true, not-false}
 use Rattle.machine.specs.Memory.{mem}
 use Rattle.machine.specs.Answers.{pixel}
-use Rattle.host.specs.Hosted.{pixelAnswerSaid}
+use Rattle.host_records.specs.Answers.{pixelAnswerSaid}
 use Rattle.host.proofs.Laws.{direct-unknown, direct-known}
 use borrow.Author.Needs.{needs}
 use Rattle.host.proofs.direct.iddesmar_seq_read_linear.Statement.{statement}

@@ -2,7 +2,7 @@
 use mathlib.Core.Path.{sym, ap, _∙_}
 use borrow.Author.Tests.{not-true, not-false}
 use Rattle.machine.specs.Answers.{one}
-use Rattle.host.specs.Hosted.{answerSaid}
+use Rattle.host_records.specs.Answers.{answerSaid}
 use Rattle.host.proofs.Laws.{graphics-unknown, graphics-asked}
 use borrow.Author.Needs.{needs}
 use Rattle.host.proofs.ports.iddesmar_gc_read_data.Statement.{statement}
