@@ -1,6 +1,6 @@
 -- What the host's proofs cite: a call on records that are known, or not, and what a write leaves as it was.
 use Prim.Native.Nat.{ℕ, zero, suc}
-use mathlib.Core.Path.{_≡_, refl, sym, ap, subst, _∙_}
+use mathlib.Core.Path.{_≡_, refl, sym, ap, ap₂, subst, _∙_}
 use mathlib.Core.Bool.{Bool, true, false}
 use Rattle.machine.specs.declared.graphics.GraphicsController.{GraphicsController}
 use Rattle.machine.specs.declared.graphics.WriteMode.{WriteMode}
@@ -12,7 +12,7 @@ use Rattle.machine.specs.Graphics.{gcOf, writeMode}
 use Rattle.machine.specs.Address.{offset}
 use Rattle.machine.specs.Deeds.{latchesAfter, memoryAfter, valueOf}
 use Rattle.machine.specs.Calls.{SequencerCall, DirectCall, GraphicsCall, CpuCall, cpuWrite, CpuPlan, cpuPlan, writeDeed}
-use Rattle.machine.specs.Step.{Device, device, cpuAfter, cpuPerform, sequencerStep, directStep, graphicsStep, cpuStep}
+use Rattle.machine.specs.Step.{Device, device, lifted, cpuAfter, cpuPerform, sequencerStep, directStep, graphicsStep, cpuStep}
 use Rattle.host_records.specs.declared.record.StatsRecord.{StatsRecord}
 use Rattle.host_records.specs.declared.record.ControllerRecord.{ControllerRecord}
 use Rattle.host_records.specs.declared.record.SequencerRecord.{SequencerRecord}
@@ -22,6 +22,14 @@ use Rattle.host_records.specs.Answers.{shownOf}
 use Rattle.host_records.proofs.Laws.{record-back, sequencer-back, known-gc}
 use Rattle.host.specs.Hosted.{held, heldOf, hosted, sequencerHosted, directHosted, graphicsHosted, cpuHosted}
 
+-- the parts of equal outcomes
+module _ {S : Type 0} {a b : Said} {s t : S} (e : outcome a s ≡ outcome b t) where
+  pub said-of : a ≡ b
+  said-of = ap (λ (o : Outcome S). o .answer) e
+
+  pub left-of : s ≡ t
+  left-of = ap (λ (o : Outcome S). o .next) e
+
 -- ---- calls on the sequencer's record
 
 module _ (s : SequencerRecord) (v : Value) (c : SequencerCall) where
@@ -29,13 +37,13 @@ module _ (s : SequencerRecord) (v : Value) (c : SequencerCall) where
   unfolding sequencerHosted
   seq-unknown e a f = rw (← e, f)
 
-  pub seq-known : true ≡ knownSeq s → (s′ : Sequencer) → s′ ≡ sequencerOf s → (a b : Said) (n : Sequencer) (t : SequencerRecord) → b ≡ a → t ≡ sequencerRecordOf n
-      → outcome a n ≡ sequencerStep s′ c → outcome b t ≡ sequencerHosted s v c
+  pub seq-known : true ≡ knownSeq s → (s′ : Sequencer) → s′ ≡ sequencerOf s → (a : Said) (n : Sequencer) (o : Outcome SequencerRecord) → o ≡ lifted sequencerRecordOf (outcome a n)
+      → outcome a n ≡ sequencerStep s′ c → o ≡ sequencerHosted s v c
   unfolding sequencerHosted
-  seq-known e s′ j a b n t f k p = rw (← e, f, k, ← j) (ap (λ (o : Outcome Sequencer). outcome (o .answer) (sequencerRecordOf (o .next))) p)
+  seq-known e s′ j a n o f p = rw (← e, f, ← j) (ap (lifted sequencerRecordOf) p)
 
   pub seq-asked : true ≡ knownSeq s → (s′ : Sequencer) → s′ ≡ sequencerOf s → (a b : Said) → b ≡ a → outcome a s′ ≡ sequencerStep s′ c → outcome b s ≡ sequencerHosted s v c
-  seq-asked e s′ j a b f p = seq-known e s′ j a b s′ s f (sym (ap sequencerRecordOf j ∙ sequencer-back s e)) p
+  seq-asked e s′ j a b f p = seq-known e s′ j a s′ (outcome b s) (ap₂ outcome f (sym (ap sequencerRecordOf j ∙ sequencer-back s e))) p
 
 -- ---- calls on the sequencer's record and memory
 
@@ -55,13 +63,13 @@ module _ (g : ControllerRecord) (v : Value) (c : GraphicsCall) where
   unfolding graphicsHosted
   graphics-unknown e a f = rw (← e, f)
 
-  pub graphics-known : true ≡ knownGc g → (g′ : GraphicsController) → g′ ≡ controllerOf g → (a b : Said) (n : GraphicsController) (h : ControllerRecord) → b ≡ a → h ≡ recordOf n
-      → outcome a n ≡ graphicsStep g′ c → outcome b h ≡ graphicsHosted g v c
+  pub graphics-known : true ≡ knownGc g → (g′ : GraphicsController) → g′ ≡ controllerOf g → (a : Said) (n : GraphicsController) (o : Outcome ControllerRecord) → o ≡ lifted recordOf (outcome a n)
+      → outcome a n ≡ graphicsStep g′ c → o ≡ graphicsHosted g v c
   unfolding graphicsHosted
-  graphics-known e g′ i a b n h f k p = rw (← e, f, k, ← i) (ap (λ (o : Outcome GraphicsController). outcome (o .answer) (recordOf (o .next))) p)
+  graphics-known e g′ i a n o f p = rw (← e, f, ← i) (ap (lifted recordOf) p)
 
   pub graphics-asked : true ≡ knownGc g → (g′ : GraphicsController) → g′ ≡ controllerOf g → (a b : Said) → b ≡ a → outcome a g′ ≡ graphicsStep g′ c → outcome b g ≡ graphicsHosted g v c
-  graphics-asked e g′ i a b f p = graphics-known e g′ i a b g′ g f (sym (ap recordOf i ∙ record-back g e)) p
+  graphics-asked e g′ i a b f p = graphics-known e g′ i a g′ (outcome b g) (ap₂ outcome f (sym (ap recordOf i ∙ record-back g e))) p
 
 -- ---- calls on both records and memory
 
@@ -109,12 +117,12 @@ write-kept g s m x page y =
     plan-kept (cpuPlan (g .registers) s (shape m) (cpuWrite x page y)) g m (write-latches (writeMode (g .registers)) g s m x (offset (g .registers) x page) y)
 
 module _ (g : ControllerRecord) (s : SequencerRecord) (m : Memory) (v : Value) (x : ℕ) (page : Bool) (y : ℕ) where
-  pub cpu-wrote : true ≡ known g s → (g′ : GraphicsController) (s′ : Sequencer) → g′ ≡ controllerOf g → s′ ≡ sequencerOf s → (a b : Said) (n : GraphicsController) (t : StatsRecord) (m′ : Memory) → b ≡ a → t ≡ statsRecordOf (n .stats)
+  pub cpu-wrote : true ≡ known g s → (g′ : GraphicsController) (s′ : Sequencer) → g′ ≡ controllerOf g → s′ ≡ sequencerOf s → (a b : Said) (n : GraphicsController) (t : StatsRecord) (m′ : Memory) → outcome b t ≡ outcome a (statsRecordOf (n .stats))
       → outcome a (device n m′) ≡ cpuStep g′ s′ m (cpuWrite x page y) → outcome b (held (withStats t g) m′) ≡ cpuHosted g s m v (cpuWrite x page y)
-  cpu-wrote e g′ s′ i j a b n t m′ f k p = cpu-known g s m v (cpuWrite x page y) e g′ s′ i j a b n (withStats t g) m′ f stays p
+  cpu-wrote e g′ s′ i j a b n t m′ f p = cpu-known g s m v (cpuWrite x page y) e g′ s′ i j a b n (withStats t g) m′ (said-of f) stays p
     where
       same : Kept (controllerOf g) n
       same = subst (λ (q : GraphicsController). Kept q n) i (subst (Kept g′) (sym (ap (λ (o : Outcome Device). o .next .gc) p)) (write-kept g′ s′ m x page y))
 
       stays : withStats t g ≡ recordOf n
-      stays = sym (ap recordOf same ∙ ap (withStats (statsRecordOf (n .stats))) (record-back g (known-gc g s e)) ∙ ap (λ (t : StatsRecord). withStats t g) (sym k))
+      stays = sym (ap recordOf same ∙ ap (withStats (statsRecordOf (n .stats))) (record-back g (known-gc g s e)) ∙ ap (λ (t : StatsRecord). withStats t g) (sym (left-of f)))

@@ -13,14 +13,15 @@ use host_records::answer::Shown;
 use host_records::answer::StatsAnswer;
 use host_records::answer::of_byte;
 use host_records::answer::of_part;
-use host_records::answer::of_store;
 use host_records::answer::unknown;
 use host_records::answer::unknown_shown;
+use host_records::left::of_cpu_store;
+use host_records::left::unknown_controller;
+use host_records::left::unknown_counters;
 use host_records::record::ControllerRecord;
 use host_records::record::SequencerRecord;
 use host_records::record::known;
 use host_records::record::of_controller;
-use host_records::record::of_stats;
 use host_records::record::to_controller;
 use host_records::record::to_sequencer;
 use machine::PlaneOffset;
@@ -39,10 +40,7 @@ fn read_of(
     ensures { λ r. ⌜ outcome (answerSaid (r .answer)) (held (r .gc) (before p0 p1 p2 p3 picture)) ≡ cpuHosted gc seq (before p0 p1 p2 p3 picture) (one 0) (cpuRead address page) ⌝ }
 {
     if !known(gc, seq) {
-        return ControllerAnswer {
-            answer: unknown(),
-            gc,
-        };
+        return unknown_controller(gc);
     }
     let controller = to_controller(gc);
     let sequencer = to_sequencer(seq);
@@ -81,11 +79,7 @@ fn write_of(
     ensures { λ r. ⌜ outcome (answerSaid (r .answer)) (held (withStats (r .stats) gc) (after p0 p1 p2 p3 picture)) ≡ cpuHosted gc seq (before p0 p1 p2 p3 picture) (one 0) (cpuWrite address page byte) ⌝ }
 {
     if !known(gc, seq) {
-        let stats = gc.stats;
-        return StatsAnswer {
-            answer: unknown(),
-            stats,
-        };
+        return unknown_counters(gc);
     }
     let controller = to_controller(gc);
     let sequencer = to_sequencer(seq);
@@ -101,13 +95,7 @@ fn write_of(
         page,
         byte,
     );
-    let answer = r.answer;
-    let left = r.gc;
-    let stats = left.stats;
-    StatsAnswer {
-        answer: of_store(answer),
-        stats: of_stats(stats),
-    }
+    of_cpu_store(r)
 }
 
 #[no_mangle]

@@ -12,13 +12,14 @@ use host_records::answer::ControllerAnswer;
 use host_records::answer::Mapped;
 use host_records::answer::done;
 use host_records::answer::of_byte;
-use host_records::answer::of_done;
 use host_records::answer::of_flag;
 use host_records::answer::of_map;
 use host_records::answer::of_mapped;
 use host_records::answer::of_odd_even;
 use host_records::answer::of_shift;
 use host_records::answer::unknown;
+use host_records::left::of_graphics_done;
+use host_records::left::unknown_controller;
 use host_records::record::ControllerRecord;
 use host_records::record::known_controller;
 use host_records::record::of_controller;
@@ -47,36 +48,18 @@ fn address_of(gc: ControllerRecord, byte: u8) -> ControllerAnswer
     ensures { λ r. ⌜ outcome (answerSaid (r .answer)) (r .gc) ≡ graphicsHosted gc (one 0) (gcWriteAddress byte) ⌝ }
 {
     if !known_controller(gc) {
-        return ControllerAnswer {
-            answer: unknown(),
-            gc,
-        };
+        return unknown_controller(gc);
     }
-    let r = graphics_controller::write_address(to_controller(gc), byte);
-    let answer = r.answer;
-    let next = r.gc;
-    ControllerAnswer {
-        answer: of_done(answer),
-        gc: of_controller(next),
-    }
+    of_graphics_done(graphics_controller::write_address(to_controller(gc), byte))
 }
 
 fn data_of(gc: ControllerRecord, byte: u8) -> ControllerAnswer
     ensures { λ r. ⌜ outcome (answerSaid (r .answer)) (r .gc) ≡ graphicsHosted gc (one 0) (gcWriteData byte) ⌝ }
 {
     if !known_controller(gc) {
-        return ControllerAnswer {
-            answer: unknown(),
-            gc,
-        };
+        return unknown_controller(gc);
     }
-    let r = graphics_controller::write_data(to_controller(gc), byte);
-    let answer = r.answer;
-    let next = r.gc;
-    ControllerAnswer {
-        answer: of_done(answer),
-        gc: of_controller(next),
-    }
+    of_graphics_done(graphics_controller::write_data(to_controller(gc), byte))
 }
 
 // Any record is taken; latches and counters go back to the start too.

@@ -13,9 +13,10 @@ use host_records::answer::SequencerAnswer;
 use host_records::answer::done;
 use host_records::answer::of_byte;
 use host_records::answer::of_clock;
-use host_records::answer::of_done;
-use host_records::answer::of_flag;
 use host_records::answer::unknown;
+use host_records::left::of_sequencer_done;
+use host_records::left::of_sequencer_flag;
+use host_records::left::unknown_sequencer;
 use host_records::record::SequencerRecord;
 use host_records::record::known_sequencer;
 use host_records::record::of_sequencer;
@@ -60,18 +61,9 @@ pub extern "C" fn iddesmar_seq_set_clock_change_pending(seq: SequencerRecord) ->
     ensures { λ r. ⌜ outcome (answerSaid (r .answer)) (r .seq) ≡ sequencerHosted seq (one 0) seqSetClockChangePending ⌝ }
 {
     if !known_sequencer(seq) {
-        return SequencerAnswer {
-            answer: unknown(),
-            seq,
-        };
+        return unknown_sequencer(seq);
     }
-    let r = sequencer::set_clock_change_pending(to_sequencer(seq));
-    let answer = r.answer;
-    let next = r.seq;
-    SequencerAnswer {
-        answer: of_done(answer),
-        seq: of_sequencer(next),
-    }
+    of_sequencer_done(sequencer::set_clock_change_pending(to_sequencer(seq)))
 }
 
 #[no_mangle]
@@ -79,18 +71,9 @@ pub extern "C" fn iddesmar_seq_poll_clock_change(seq: SequencerRecord) -> Sequen
     ensures { λ r. ⌜ outcome (answerSaid (r .answer)) (r .seq) ≡ sequencerHosted seq (one 0) seqPollClockChange ⌝ }
 {
     if !known_sequencer(seq) {
-        return SequencerAnswer {
-            answer: unknown(),
-            seq,
-        };
+        return unknown_sequencer(seq);
     }
-    let r = sequencer::poll_clock_change(to_sequencer(seq));
-    let answer = r.answer;
-    let next = r.seq;
-    SequencerAnswer {
-        answer: of_flag(answer),
-        seq: of_sequencer(next),
-    }
+    of_sequencer_flag(sequencer::poll_clock_change(to_sequencer(seq)))
 }
 
 #[no_mangle]
@@ -108,18 +91,9 @@ pub extern "C" fn iddesmar_seq_write_address(seq: SequencerRecord, byte: u8) -> 
     ensures { λ r. ⌜ outcome (answerSaid (r .answer)) (r .seq) ≡ sequencerHosted seq (one 0) (seqWriteAddress byte) ⌝ }
 {
     if !known_sequencer(seq) {
-        return SequencerAnswer {
-            answer: unknown(),
-            seq,
-        };
+        return unknown_sequencer(seq);
     }
-    let r = sequencer::write_address(to_sequencer(seq), byte);
-    let answer = r.answer;
-    let next = r.seq;
-    SequencerAnswer {
-        answer: of_done(answer),
-        seq: of_sequencer(next),
-    }
+    of_sequencer_done(sequencer::write_address(to_sequencer(seq), byte))
 }
 
 #[no_mangle]
@@ -137,16 +111,7 @@ pub extern "C" fn iddesmar_seq_write_data(seq: SequencerRecord, byte: u8) -> Seq
     ensures { λ r. ⌜ outcome (answerSaid (r .answer)) (r .seq) ≡ sequencerHosted seq (one 0) (seqWriteData byte) ⌝ }
 {
     if !known_sequencer(seq) {
-        return SequencerAnswer {
-            answer: unknown(),
-            seq,
-        };
+        return unknown_sequencer(seq);
     }
-    let r = sequencer::write_data(to_sequencer(seq), byte);
-    let answer = r.answer;
-    let next = r.seq;
-    SequencerAnswer {
-        answer: of_done(answer),
-        seq: of_sequencer(next),
-    }
+    of_sequencer_done(sequencer::write_data(to_sequencer(seq), byte))
 }

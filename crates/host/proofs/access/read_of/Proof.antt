@@ -3,8 +3,7 @@ use mathlib.Core.Path.{refl, sym, ap, _∙_}
 use borrow.Author.Tests.{not-true, not-false}
 use Rattle.machine.specs.Memory.{mem}
 use Rattle.machine.specs.Answers.{one}
-use Rattle.host_records.specs.Answers.{answerSaid}
-use Rattle.host.proofs.Laws.{cpu-unknown, cpu-known}
+use Rattle.host.proofs.Laws.{cpu-unknown, cpu-known, said-of, left-of}
 use mathlib.Core.Path.{sym, refl, _∙_}
 use borrow.Author.Needs.{needs}
 use Rattle.host.proofs.access.read_of.Statement.{statement}
@@ -13,13 +12,14 @@ use Rattle.host.proofs.access.read_of.Tie as tie
 known-requires : tie.Need-known-requires
 known-requires c κs = search needs
 
-unknown-requires : tie.Need-unknown-requires
-unknown-requires c κs = search needs
+unknown-controller-requires : tie.Need-unknown-controller-requires
+unknown-controller-requires c κs = search needs
 
 returns : tie.Need-returns
 returns c =
     let a = c .before .before .before .before .before .before .before .before .args in
-    cpu-unknown (a .gc) (a .seq) (mem (a .p0 .now) (a .p1 .now) (a .p2 .now) (a .p3 .now) (a .picture .now)) (one 0) _ (sym (not-true _ (c .before .if1 .taken)) ∙ c .before .before .known .ensures) _ _ (ap answerSaid (c .unknown .ensures)) refl
+    let e = c .unknown-controller .ensures in
+    cpu-unknown (a .gc) (a .seq) (mem (a .p0 .now) (a .p1 .now) (a .p2 .now) (a .p3 .now) (a .picture .now)) (one 0) _ (sym (not-true _ (c .before .if1 .taken)) ∙ c .before .before .known .ensures) _ _ (said-of e) (left-of e)
 
 to-controller-requires : tie.Need-to-controller-requires
 to-controller-requires c κs = search needs
@@ -46,7 +46,7 @@ read-of-spec =
     tie.close
     (tie.spec
     known-requires
-    unknown-requires
+    unknown-controller-requires
     returns
     to-controller-requires
     to-sequencer-requires
