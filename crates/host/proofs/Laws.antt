@@ -1,7 +1,8 @@
 -- What the host's proofs cite: a call on records that are known, or not, and what a write leaves as it was.
 use Prim.Native.Nat.{ℕ, zero, suc}
 use mathlib.Core.Path.{_≡_, refl, sym, ap, ap₂, subst, _∙_}
-use mathlib.Core.Bool.{Bool, true, false}
+use mathlib.Core.Bool.{Bool, true, false, not}
+use borrow.Author.Tests.{not-true, not-false}
 use Rattle.machine.specs.declared.graphics.GraphicsController.{GraphicsController}
 use Rattle.machine.specs.declared.graphics.WriteMode.{WriteMode}
 use Rattle.machine.specs.declared.graphics.WriteMode.the-variants.{Mode0, Mode1, Mode2, Invalid}
@@ -21,6 +22,13 @@ use Rattle.host_records.specs.Records.{knownGc, knownSeq, known, controllerOf, 
 use Rattle.host_records.specs.Answers.{shownOf}
 use Rattle.host_records.proofs.Laws.{record-back, sequencer-back, known-gc}
 use Rattle.host.specs.Hosted.{held, heldOf, hosted, sequencerHosted, directHosted, graphicsHosted, cpuHosted}
+
+-- what a test of a record says, asked for negated as the code does
+pub unknown-of : {b k : Bool} → not b ≡ true → b ≡ k → false ≡ k
+unknown-of {b = b} h e = sym (not-true b h) ∙ e
+
+pub known-of : {b k : Bool} → not b ≡ false → b ≡ k → true ≡ k
+known-of {b = b} h e = sym (not-false b h) ∙ e
 
 -- the parts of equal outcomes
 module _ {S : Type 0} {a b : Said} {s t : S} (e : outcome a s ≡ outcome b t) where

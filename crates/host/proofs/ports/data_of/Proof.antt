@@ -1,8 +1,7 @@
 -- `data_of` answers 6 where a number selects no register, else as `write_data` of the record that is meant.
-use mathlib.Core.Path.{refl, sym, _∙_}
-use borrow.Author.Tests.{not-true, not-false}
+use mathlib.Core.Path.{refl, _∙_}
 use Rattle.machine.specs.Answers.{one}
-use Rattle.host.proofs.Laws.{graphics-unknown, graphics-known}
+use Rattle.host.proofs.Laws.{unknown-of, known-of, graphics-unknown, graphics-known}
 use borrow.Author.Needs.{needs}
 use Rattle.host.proofs.ports.data_of.Statement.{statement}
 use Rattle.host.proofs.ports.data_of.Tie as tie
@@ -15,7 +14,7 @@ unknown-controller-requires c κs = search needs
 
 returns : tie.Need-returns
 returns c =
-    c .unknown-controller .ensures ∙ graphics-unknown (c .before .before .before .args .gc) (one 0) _ (sym (not-true _ (c .before .if1 .taken)) ∙ c .before .before .known-controller .ensures) _ refl
+    c .unknown-controller .ensures ∙ graphics-unknown (c .before .before .before .args .gc) (one 0) _ (unknown-of (c .before .if1 .taken) (c .before .before .known-controller .ensures)) _ refl
 
 to-controller-requires : tie.Need-to-controller-requires
 to-controller-requires c κs = search needs
@@ -28,7 +27,7 @@ of-graphics-done-requires c κs = search needs
 
 returns-2 : tie.Need-returns-2
 returns-2 c =
-    graphics-known (c .before .before .before .before .before .args .gc) (one 0) _ (sym (not-false _ (c .before .before .before .if1 .left)) ∙ c .before .before .before .before .known-controller .ensures) _ (c .before .before .to-controller .ensures) _ _ _ (c .of-graphics-done .ensures) (c .before .write-data .ensures)
+    graphics-known (c .before .before .before .before .before .args .gc) (one 0) _ (known-of (c .before .before .before .if1 .left) (c .before .before .before .before .known-controller .ensures)) _ (c .before .before .to-controller .ensures) _ _ _ (c .of-graphics-done .ensures) (c .before .write-data .ensures)
 
 pub data-of-spec : {M : Type 1} → statement M
 data-of-spec =

@@ -1,8 +1,7 @@
 -- Refusal 6 where a number selects no register, else as `write_address` of the record that is meant.
-use mathlib.Core.Path.{refl, sym, _∙_}
-use borrow.Author.Tests.{not-true, not-false}
+use mathlib.Core.Path.{refl, _∙_}
 use Rattle.machine.specs.Answers.{one}
-use Rattle.host.proofs.Laws.{seq-unknown, seq-known}
+use Rattle.host.proofs.Laws.{unknown-of, known-of, seq-unknown, seq-known}
 use borrow.Author.Needs.{needs}
 use Rattle.host.proofs.sequencer_ports.iddesmar_seq_write_address.Statement.{statement}
 use Rattle.host.proofs.sequencer_ports.iddesmar_seq_write_address.Tie as tie
@@ -15,7 +14,7 @@ unknown-sequencer-requires c κs = search needs
 
 returns : tie.Need-returns
 returns c =
-    c .unknown-sequencer .ensures ∙ seq-unknown (c .before .before .before .args .seq) (one 0) _ (sym (not-true _ (c .before .if1 .taken)) ∙ c .before .before .known-sequencer .ensures) _ refl
+    c .unknown-sequencer .ensures ∙ seq-unknown (c .before .before .before .args .seq) (one 0) _ (unknown-of (c .before .if1 .taken) (c .before .before .known-sequencer .ensures)) _ refl
 
 to-sequencer-requires : tie.Need-to-sequencer-requires
 to-sequencer-requires c κs = search needs
@@ -28,7 +27,7 @@ of-sequencer-done-requires c κs = search needs
 
 returns-2 : tie.Need-returns-2
 returns-2 c =
-    seq-known (c .before .before .before .before .before .args .seq) (one 0) _ (sym (not-false _ (c .before .before .before .if1 .left)) ∙ c .before .before .before .before .known-sequencer .ensures) _ (c .before .before .to-sequencer .ensures) _ _ _ (c .of-sequencer-done .ensures) (c .before .write-address .ensures)
+    seq-known (c .before .before .before .before .before .args .seq) (one 0) _ (known-of (c .before .before .before .if1 .left) (c .before .before .before .before .known-sequencer .ensures)) _ (c .before .before .to-sequencer .ensures) _ _ _ (c .of-sequencer-done .ensures) (c .before .write-address .ensures)
 
 pub iddesmar-seq-write-address-spec : {M : Type 1} → statement M
 iddesmar-seq-write-address-spec =
