@@ -1,86 +1,42 @@
--- What the host's proofs cite: registers by number and back, and a call on records that are known, or not.
-use Prim.Native.Nat.{ℕ, zero, suc, _<_, _≤_}
-use native.Mathlib.Omega.{arith}
-use mathlib.Core.Path.{_≡_, refl, sym, ap, subst, _∙_}
-use mathlib.Core.Bool.{Bool, true, false}
-use mathlib.Core.List.{List, [], _∷_}
-use lib.Dec.{leb}
-use lib.ListN.{length, getD}
-use borrow.Author.Tests.{leb-true}
-use Rattle.machine.specs.declared.graphics.GraphicsRegister.the-variants.{BitMask}
+-- What the host's proofs cite: a call on records that are known, or not, and what a write leaves as it was.
+use Prim.Native.Nat.{ℕ, zero, suc}
+use mathlib.Core.Path.{_≡_, refl, sym, ap, ap₂, subst, _∙_}
+use mathlib.Core.Bool.{Bool, true, false, not}
+use borrow.Author.Tests.{not-true, not-false}
 use Rattle.machine.specs.declared.graphics.GraphicsController.{GraphicsController}
 use Rattle.machine.specs.declared.graphics.WriteMode.{WriteMode}
 use Rattle.machine.specs.declared.graphics.WriteMode.the-variants.{Mode0, Mode1, Mode2, Invalid}
 use Rattle.machine.specs.declared.sequencer.Sequencer.{Sequencer}
 use Rattle.machine.specs.Memory.{Memory, shape}
 use Rattle.machine.specs.Answers.{Value, Said, said, Outcome, outcome, answered}
-use Rattle.machine.specs.Graphics.{selects, registerNumber, gcOf, writeMode}
-use Rattle.machine.specs.Sequencer.{selectsSeq, seqNumber}
+use Rattle.machine.specs.Graphics.{gcOf, writeMode}
 use Rattle.machine.specs.Address.{offset}
 use Rattle.machine.specs.Deeds.{latchesAfter, memoryAfter, valueOf}
 use Rattle.machine.specs.Calls.{SequencerCall, DirectCall, GraphicsCall, CpuCall, cpuWrite, CpuPlan, cpuPlan, writeDeed}
-use Rattle.machine.specs.Step.{Device, device, cpuAfter, cpuPerform, sequencerStep, directStep, graphicsStep, cpuStep}
-use Rattle.machine.proofs.Laws.{both}
-use Rattle.host.specs.declared.record.StatsRecord.{StatsRecord}
-use Rattle.host.specs.declared.record.ControllerRecord.{ControllerRecord}
-use Rattle.host.specs.declared.record.SequencerRecord.{SequencerRecord}
-use Rattle.host.specs.declared.answer.Shown.{Shown}
-use Rattle.host.specs.Records.{knownGc, knownSeq, known, controllerOf, recordOf, sequencerOf, sequencerRecordOf, statsRecordOf, withStats}
-use Rattle.host.specs.Hosted.{shownOf, held, heldOf, hosted, sequencerHosted, directHosted, graphicsHosted, cpuHosted}
+use Rattle.machine.specs.Step.{Device, device, lifted, cpuAfter, cpuPerform, sequencerStep, directStep, graphicsStep, cpuStep}
+use Rattle.host_records.specs.declared.record.StatsRecord.{StatsRecord}
+use Rattle.host_records.specs.declared.record.ControllerRecord.{ControllerRecord}
+use Rattle.host_records.specs.declared.record.SequencerRecord.{SequencerRecord}
+use Rattle.host_records.specs.declared.answer.Shown.{Shown}
+use Rattle.host_records.specs.Records.{knownGc, knownSeq, known, controllerOf, recordOf, sequencerOf, sequencerRecordOf, statsRecordOf, withStats}
+use Rattle.host_records.specs.Answers.{shownOf}
+use Rattle.host_records.proofs.Laws.{record-back, sequencer-back, known-gc}
+use Rattle.host.specs.Hosted.{held, heldOf, hosted, sequencerHosted, directHosted, graphicsHosted, cpuHosted}
 
--- ---- registers by number
+-- what a test of a record says, asked for negated as the code does
+pub unknown-of : {b k : Bool} → not b ≡ true → b ≡ k → false ≡ k
+unknown-of {b = b} h e = sym (not-true b h) ∙ e
 
--- the last register stands for every number from its own on
-pub selects-last : (n : ℕ) → 7 < n → BitMask ≡ selects n BitMask
-unfolding selects
-selects-last zero h = absurd (omega arith)
-selects-last (suc zero) h = absurd (omega arith)
-selects-last (suc (suc zero)) h = absurd (omega arith)
-selects-last (suc (suc (suc zero))) h = absurd (omega arith)
-selects-last (suc (suc (suc (suc zero)))) h = absurd (omega arith)
-selects-last (suc (suc (suc (suc (suc zero))))) h = absurd (omega arith)
-selects-last (suc (suc (suc (suc (suc (suc zero)))))) h = absurd (omega arith)
-selects-last (suc (suc (suc (suc (suc (suc (suc zero))))))) h = absurd (omega arith)
-selects-last (suc (suc (suc (suc (suc (suc (suc (suc zero)))))))) h = refl
-selects-last (suc (suc (suc (suc (suc (suc (suc (suc (suc n))))))))) h = refl
+pub known-of : {b k : Bool} → not b ≡ false → b ≡ k → true ≡ k
+known-of {b = b} h e = sym (not-false b h) ∙ e
 
--- the number is none of those of the first four arms
-pub four : (n : ℕ) → (((Unit {0} × (n ≡ 0 → ⊥)) × (n ≡ 1 → ⊥)) × (n ≡ 2 → ⊥)) × (n ≡ 3 → ⊥) → 3 < n
-four n h = omega (arith, h .1, h .0 .1, h .0 .0 .1, h .0 .0 .0 .1)
+-- the parts of equal outcomes
+module _ {S : Type 0} {a b : Said} {s t : S} (e : outcome a s ≡ outcome b t) where
+  pub said-of : a ≡ b
+  said-of = ap (λ (o : Outcome S). o .answer) e
 
--- a register's number, read as a register, is its number again
-number-back : (n : ℕ) → n ≤ 8 → registerNumber (selects n BitMask) ≡ n
-unfolding selects
-number-back zero h = refl
-number-back (suc zero) h = refl
-number-back (suc (suc zero)) h = refl
-number-back (suc (suc (suc zero))) h = refl
-number-back (suc (suc (suc (suc zero)))) h = refl
-number-back (suc (suc (suc (suc (suc zero))))) h = refl
-number-back (suc (suc (suc (suc (suc (suc zero)))))) h = refl
-number-back (suc (suc (suc (suc (suc (suc (suc zero))))))) h = refl
-number-back (suc (suc (suc (suc (suc (suc (suc (suc zero)))))))) h = refl
-number-back (suc (suc (suc (suc (suc (suc (suc (suc (suc n))))))))) h = absurd (omega arith)
-
-seq-number-back : (n : ℕ) → n ≤ 5 → seqNumber (selectsSeq n) ≡ n
-unfolding selectsSeq
-seq-number-back zero h = refl
-seq-number-back (suc zero) h = refl
-seq-number-back (suc (suc zero)) h = refl
-seq-number-back (suc (suc (suc zero))) h = refl
-seq-number-back (suc (suc (suc (suc zero)))) h = refl
-seq-number-back (suc (suc (suc (suc (suc zero))))) h = refl
-seq-number-back (suc (suc (suc (suc (suc (suc n)))))) h = absurd (omega arith)
-
--- a record of known number is kept as it is
-pub record-back : (g : ControllerRecord) → true ≡ knownGc g → recordOf (controllerOf g) ≡ g
-record-back g e = rw (number-back (g .«register_selected») (leb-true _ _ (sym e)))
-
-pub sequencer-back : (s : SequencerRecord) → true ≡ knownSeq s → sequencerRecordOf (sequencerOf s) ≡ s
-sequencer-back s e = rw (seq-number-back (s .«register_selected») (leb-true _ _ (sym e)))
-
-pub known-gc : (g : ControllerRecord) (s : SequencerRecord) → true ≡ known g s → true ≡ knownGc g
-known-gc g s e = sym (both (knownGc g) (knownSeq s) (sym e) .0)
+  pub left-of : s ≡ t
+  left-of = ap (λ (o : Outcome S). o .next) e
 
 -- ---- calls on the sequencer's record
 
@@ -89,13 +45,13 @@ module _ (s : SequencerRecord) (v : Value) (c : SequencerCall) where
   unfolding sequencerHosted
   seq-unknown e a f = rw (← e, f)
 
-  pub seq-known : true ≡ knownSeq s → (s′ : Sequencer) → s′ ≡ sequencerOf s → (a b : Said) (n : Sequencer) (t : SequencerRecord) → b ≡ a → t ≡ sequencerRecordOf n
-      → outcome a n ≡ sequencerStep s′ c → outcome b t ≡ sequencerHosted s v c
+  pub seq-known : true ≡ knownSeq s → (s′ : Sequencer) → s′ ≡ sequencerOf s → (a : Said) (n : Sequencer) (o : Outcome SequencerRecord) → o ≡ lifted sequencerRecordOf (outcome a n)
+      → outcome a n ≡ sequencerStep s′ c → o ≡ sequencerHosted s v c
   unfolding sequencerHosted
-  seq-known e s′ j a b n t f k p = rw (← e, f, k, ← j) (ap (λ (o : Outcome Sequencer). outcome (o .answer) (sequencerRecordOf (o .next))) p)
+  seq-known e s′ j a n o f p = rw (← e, f, ← j) (ap (lifted sequencerRecordOf) p)
 
   pub seq-asked : true ≡ knownSeq s → (s′ : Sequencer) → s′ ≡ sequencerOf s → (a b : Said) → b ≡ a → outcome a s′ ≡ sequencerStep s′ c → outcome b s ≡ sequencerHosted s v c
-  seq-asked e s′ j a b f p = seq-known e s′ j a b s′ s f (sym (ap sequencerRecordOf j ∙ sequencer-back s e)) p
+  seq-asked e s′ j a b f p = seq-known e s′ j a s′ (outcome b s) (ap₂ outcome f (sym (ap sequencerRecordOf j ∙ sequencer-back s e))) p
 
 -- ---- calls on the sequencer's record and memory
 
@@ -115,13 +71,13 @@ module _ (g : ControllerRecord) (v : Value) (c : GraphicsCall) where
   unfolding graphicsHosted
   graphics-unknown e a f = rw (← e, f)
 
-  pub graphics-known : true ≡ knownGc g → (g′ : GraphicsController) → g′ ≡ controllerOf g → (a b : Said) (n : GraphicsController) (h : ControllerRecord) → b ≡ a → h ≡ recordOf n
-      → outcome a n ≡ graphicsStep g′ c → outcome b h ≡ graphicsHosted g v c
+  pub graphics-known : true ≡ knownGc g → (g′ : GraphicsController) → g′ ≡ controllerOf g → (a : Said) (n : GraphicsController) (o : Outcome ControllerRecord) → o ≡ lifted recordOf (outcome a n)
+      → outcome a n ≡ graphicsStep g′ c → o ≡ graphicsHosted g v c
   unfolding graphicsHosted
-  graphics-known e g′ i a b n h f k p = rw (← e, f, k, ← i) (ap (λ (o : Outcome GraphicsController). outcome (o .answer) (recordOf (o .next))) p)
+  graphics-known e g′ i a n o f p = rw (← e, f, ← i) (ap (lifted recordOf) p)
 
   pub graphics-asked : true ≡ knownGc g → (g′ : GraphicsController) → g′ ≡ controllerOf g → (a b : Said) → b ≡ a → outcome a g′ ≡ graphicsStep g′ c → outcome b g ≡ graphicsHosted g v c
-  graphics-asked e g′ i a b f p = graphics-known e g′ i a b g′ g f (sym (ap recordOf i ∙ record-back g e)) p
+  graphics-asked e g′ i a b f p = graphics-known e g′ i a g′ (outcome b g) (ap₂ outcome f (sym (ap recordOf i ∙ record-back g e))) p
 
 -- ---- calls on both records and memory
 
@@ -141,19 +97,6 @@ module _ (g : ControllerRecord) (s : SequencerRecord) (m : Memory) (v : Value) (
 -- the answer of a show, by value
 pub shown-of : {S : Type 0} (a : Said) (t : S) (o : Outcome S) (r : Shown) → r ≡ shownOf a → outcome a t ≡ o → r ≡ shownOf (o .answer)
 shown-of {S = S} a t o r f p = f ∙ ap (λ (o : Outcome S). shownOf (o .answer)) p
-
--- eight entries are the list
-pub eight : (l : List ℕ) → length l ≡ 8 → getD l 0 0 ∷ getD l 1 0 ∷ getD l 2 0 ∷ getD l 3 0 ∷ getD l 4 0 ∷ getD l 5 0 ∷ getD l 6 0 ∷ getD l 7 0 ∷ [] ≡ l
-eight [] h = absurd (omega (arith, h))
-eight (x0 ∷ []) h = absurd (omega (arith, h))
-eight (x0 ∷ x1 ∷ []) h = absurd (omega (arith, h))
-eight (x0 ∷ x1 ∷ x2 ∷ []) h = absurd (omega (arith, h))
-eight (x0 ∷ x1 ∷ x2 ∷ x3 ∷ []) h = absurd (omega (arith, h))
-eight (x0 ∷ x1 ∷ x2 ∷ x3 ∷ x4 ∷ []) h = absurd (omega (arith, h))
-eight (x0 ∷ x1 ∷ x2 ∷ x3 ∷ x4 ∷ x5 ∷ []) h = absurd (omega (arith, h))
-eight (x0 ∷ x1 ∷ x2 ∷ x3 ∷ x4 ∷ x5 ∷ x6 ∷ []) h = absurd (omega (arith, h))
-eight (x0 ∷ x1 ∷ x2 ∷ x3 ∷ x4 ∷ x5 ∷ x6 ∷ x7 ∷ []) h = refl
-eight (x0 ∷ x1 ∷ x2 ∷ x3 ∷ x4 ∷ x5 ∷ x6 ∷ x7 ∷ x8 ∷ l) h = absurd (omega (arith, h))
 
 -- ---- a write moves counters and memory alone
 
@@ -182,12 +125,12 @@ write-kept g s m x page y =
     plan-kept (cpuPlan (g .registers) s (shape m) (cpuWrite x page y)) g m (write-latches (writeMode (g .registers)) g s m x (offset (g .registers) x page) y)
 
 module _ (g : ControllerRecord) (s : SequencerRecord) (m : Memory) (v : Value) (x : ℕ) (page : Bool) (y : ℕ) where
-  pub cpu-wrote : true ≡ known g s → (g′ : GraphicsController) (s′ : Sequencer) → g′ ≡ controllerOf g → s′ ≡ sequencerOf s → (a b : Said) (n : GraphicsController) (t : StatsRecord) (m′ : Memory) → b ≡ a → t ≡ statsRecordOf (n .stats)
+  pub cpu-wrote : true ≡ known g s → (g′ : GraphicsController) (s′ : Sequencer) → g′ ≡ controllerOf g → s′ ≡ sequencerOf s → (a b : Said) (n : GraphicsController) (t : StatsRecord) (m′ : Memory) → outcome b t ≡ outcome a (statsRecordOf (n .stats))
       → outcome a (device n m′) ≡ cpuStep g′ s′ m (cpuWrite x page y) → outcome b (held (withStats t g) m′) ≡ cpuHosted g s m v (cpuWrite x page y)
-  cpu-wrote e g′ s′ i j a b n t m′ f k p = cpu-known g s m v (cpuWrite x page y) e g′ s′ i j a b n (withStats t g) m′ f stays p
+  cpu-wrote e g′ s′ i j a b n t m′ f p = cpu-known g s m v (cpuWrite x page y) e g′ s′ i j a b n (withStats t g) m′ (said-of f) stays p
     where
       same : Kept (controllerOf g) n
       same = subst (λ (q : GraphicsController). Kept q n) i (subst (Kept g′) (sym (ap (λ (o : Outcome Device). o .next .gc) p)) (write-kept g′ s′ m x page y))
 
       stays : withStats t g ≡ recordOf n
-      stays = sym (ap recordOf same ∙ ap (withStats (statsRecordOf (n .stats))) (record-back g (known-gc g s e)) ∙ ap (λ (t : StatsRecord). withStats t g) (sym k))
+      stays = sym (ap recordOf same ∙ ap (withStats (statsRecordOf (n .stats))) (record-back g (known-gc g s e)) ∙ ap (λ (t : StatsRecord). withStats t g) (sym (left-of f)))

@@ -1,60 +1,12 @@
 -- The machine's calls on a host's records: refusal 6 where a selected register is no register's number, else the machine's own outcome.
-use Prim.Native.Nat.{ℕ}
 use mathlib.Core.Bool.{Bool, true, false}
-use mathlib.Core.List.{List, [], _∷_}
-use lib.Dec.{eqb}
-use lib.ListN.{length}
-use Rattle.bits.specs.Bit.{bitOf, pick}
 use Rattle.machine.specs.Memory.{Memory}
-use Rattle.machine.specs.Answers.{Value, one, two, pixel, part, Said, said, Outcome, outcome}
+use Rattle.machine.specs.Answers.{Value, said, Outcome, outcome}
 use Rattle.machine.specs.Calls.{SequencerCall, DirectCall, GraphicsCall, CpuCall}
 use Rattle.machine.specs.Step.{Device, lifted, sequencerStep, directStep, graphicsStep, cpuStep}
-use Rattle.host.specs.declared.record.ControllerRecord.{ControllerRecord}
-use Rattle.host.specs.declared.record.SequencerRecord.{SequencerRecord}
-use Rattle.host.specs.declared.answer.Answer.{Answer}
-use Rattle.host.specs.declared.answer.Clock.{Clock}
-use Rattle.host.specs.declared.answer.Mapped.{Mapped}
-use Rattle.host.specs.declared.answer.Shown.{Shown}
-use Rattle.host.specs.Records.{knownGc, knownSeq, known, controllerOf, recordOf, sequencerOf, sequencerRecordOf}
-
--- ---- answers
-
--- an answer's number and value
-abbrev pub answerSaid : Answer → Said
-answerSaid a = said (a .number) (one (a .value))
-
--- the answer of a number and a value
-abbrev pub answerOf : ℕ → ℕ → Answer
-answerOf n x = record { number = n; value = x }
-
--- of `read_linear`: a pixel
-abbrev pub pixelAnswerSaid : Answer → Said
-pixelAnswerSaid a = said (a .number) (pixel (a .value))
-
--- the character clock
-abbrev pub clockSaid : Clock → Said
-clockSaid a = said (a .number) (one (a .clock))
-
--- the offset and a0
-abbrev pub mappedSaid : Mapped → Said
-mappedSaid a = said (a .number) (two (a .offset) (bitOf (a .a0)))
-
--- the pixels of a show
-abbrev pub pixelsOf : Value → List ℕ
-pixelsOf (one x) = []
-pixelsOf (two x y) = []
-pixelsOf (pixel x) = []
-pixelsOf (part l) = l
-
--- a part of eight pixels as it is; eight zeros where there are not eight, as in the empty part of a refusal
-abbrev pub eightOf : List ℕ → List ℕ
-eightOf l = pick (eqb (length l) 8) l (0 ∷ 0 ∷ 0 ∷ 0 ∷ 0 ∷ 0 ∷ 0 ∷ 0 ∷ [])
-
--- a show's answer by value
-abbrev pub shownOf : Said → Shown
-shownOf s = record { number = s .number; pixels = eightOf (pixelsOf (s .value)) }
-
--- ---- calls
+use Rattle.host_records.specs.declared.record.ControllerRecord.{ControllerRecord}
+use Rattle.host_records.specs.declared.record.SequencerRecord.{SequencerRecord}
+use Rattle.host_records.specs.Records.{knownGc, knownSeq, known, controllerOf, recordOf, sequencerOf, sequencerRecordOf}
 
 -- the controller's record as a host keeps it, and the memory
 pub record Held : Type 0 where

@@ -4,24 +4,26 @@ ghost use mathlib.Core.List.{[]};
 ghost use Rattle.machine.specs.Memory.{before, after};
 ghost use Rattle.machine.specs.Answers.{one, part, outcome};
 ghost use Rattle.machine.specs.Calls.{cpuRead, cpuPeek, cpuWrite, serialize};
-ghost use Rattle.host.specs.Records.{withStats};
-ghost use Rattle.host.specs.Hosted.{answerSaid, shownOf, held, cpuHosted};
-use crate::answer::Answer;
-use crate::answer::ControllerAnswer;
-use crate::answer::Shown;
-use crate::answer::StatsAnswer;
-use crate::answer::of_byte;
-use crate::answer::of_part;
-use crate::answer::of_store;
-use crate::answer::unknown;
-use crate::answer::unknown_shown;
-use crate::record::ControllerRecord;
-use crate::record::SequencerRecord;
-use crate::record::known;
-use crate::record::of_controller;
-use crate::record::of_stats;
-use crate::record::to_controller;
-use crate::record::to_sequencer;
+ghost use Rattle.host_records.specs.Records.{withStats};
+ghost use Rattle.host_records.specs.Answers.{answerSaid, shownOf};
+ghost use Rattle.host.specs.Hosted.{held, cpuHosted};
+use host_records::answer::Answer;
+use host_records::answer::ControllerAnswer;
+use host_records::answer::Shown;
+use host_records::answer::StatsAnswer;
+use host_records::answer::of_byte;
+use host_records::answer::of_part;
+use host_records::answer::unknown;
+use host_records::answer::unknown_shown;
+use host_records::left::of_cpu_store;
+use host_records::left::unknown_controller;
+use host_records::left::unknown_counters;
+use host_records::record::ControllerRecord;
+use host_records::record::SequencerRecord;
+use host_records::record::known;
+use host_records::record::of_controller;
+use host_records::record::to_controller;
+use host_records::record::to_sequencer;
 use machine::PlaneOffset;
 
 fn read_of(
@@ -38,10 +40,7 @@ fn read_of(
     ensures { λ r. ⌜ outcome (answerSaid (r .answer)) (held (r .gc) (before p0 p1 p2 p3 picture)) ≡ cpuHosted gc seq (before p0 p1 p2 p3 picture) (one 0) (cpuRead address page) ⌝ }
 {
     if !known(gc, seq) {
-        return ControllerAnswer {
-            answer: unknown(),
-            gc,
-        };
+        return unknown_controller(gc);
     }
     let controller = to_controller(gc);
     let sequencer = to_sequencer(seq);
@@ -80,11 +79,7 @@ fn write_of(
     ensures { λ r. ⌜ outcome (answerSaid (r .answer)) (held (withStats (r .stats) gc) (after p0 p1 p2 p3 picture)) ≡ cpuHosted gc seq (before p0 p1 p2 p3 picture) (one 0) (cpuWrite address page byte) ⌝ }
 {
     if !known(gc, seq) {
-        let stats = gc.stats;
-        return StatsAnswer {
-            answer: unknown(),
-            stats,
-        };
+        return unknown_counters(gc);
     }
     let controller = to_controller(gc);
     let sequencer = to_sequencer(seq);
@@ -100,13 +95,7 @@ fn write_of(
         page,
         byte,
     );
-    let answer = r.answer;
-    let left = r.gc;
-    let stats = left.stats;
-    StatsAnswer {
-        answer: of_store(answer),
-        stats: of_stats(stats),
-    }
+    of_cpu_store(r)
 }
 
 #[no_mangle]

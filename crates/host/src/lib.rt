@@ -1,8 +1,6 @@
 // What an emulator in C or Rust links: every call under a plain name, over records of numbers; the controller's record is updated where it stands.
 pub mod access;
-pub mod answer;
 pub mod direct;
 pub mod planes;
 pub mod ports;
-pub mod record;
 pub mod sequencer_ports;

@@ -4,24 +4,26 @@ ghost use Rattle.machine.specs.Answers.{one, two, outcome};
 ghost use Rattle.machine.specs.Graphics.{freshGc};
 ghost use Rattle.machine.specs.Calls.{gcReset, gcChain, gcChain4, gcMemoryMap, gcOddEven, gcShiftMode, gcReadAddress, gcReadData, gcWriteAddress, gcWriteData, gcMapAddress};
 ghost use Rattle.machine.specs.Step.{lifted, graphicsStep};
-ghost use Rattle.host.specs.Records.{controllerOf, recordOf};
-ghost use Rattle.host.specs.Hosted.{answerSaid, mappedSaid as mappedAnswerSaid, graphicsHosted};
-use crate::answer::Answer;
-use crate::answer::ControllerAnswer;
-use crate::answer::Mapped;
-use crate::answer::done;
-use crate::answer::of_byte;
-use crate::answer::of_done;
-use crate::answer::of_flag;
-use crate::answer::of_map;
-use crate::answer::of_mapped;
-use crate::answer::of_odd_even;
-use crate::answer::of_shift;
-use crate::answer::unknown;
-use crate::record::ControllerRecord;
-use crate::record::known_controller;
-use crate::record::of_controller;
-use crate::record::to_controller;
+ghost use Rattle.host_records.specs.Records.{controllerOf, recordOf};
+ghost use Rattle.host_records.specs.Answers.{answerSaid, mappedSaid as mappedAnswerSaid};
+ghost use Rattle.host.specs.Hosted.{graphicsHosted};
+use host_records::answer::Answer;
+use host_records::answer::ControllerAnswer;
+use host_records::answer::Mapped;
+use host_records::answer::done;
+use host_records::answer::of_byte;
+use host_records::answer::of_flag;
+use host_records::answer::of_map;
+use host_records::answer::of_mapped;
+use host_records::answer::of_odd_even;
+use host_records::answer::of_shift;
+use host_records::answer::unknown;
+use host_records::left::of_graphics_done;
+use host_records::left::unknown_controller;
+use host_records::record::ControllerRecord;
+use host_records::record::known_controller;
+use host_records::record::of_controller;
+use host_records::record::to_controller;
 use machine::GraphicsController;
 
 // The start record.
@@ -46,36 +48,18 @@ fn address_of(gc: ControllerRecord, byte: u8) -> ControllerAnswer
     ensures { λ r. ⌜ outcome (answerSaid (r .answer)) (r .gc) ≡ graphicsHosted gc (one 0) (gcWriteAddress byte) ⌝ }
 {
     if !known_controller(gc) {
-        return ControllerAnswer {
-            answer: unknown(),
-            gc,
-        };
+        return unknown_controller(gc);
     }
-    let r = graphics_controller::write_address(to_controller(gc), byte);
-    let answer = r.answer;
-    let next = r.gc;
-    ControllerAnswer {
-        answer: of_done(answer),
-        gc: of_controller(next),
-    }
+    of_graphics_done(graphics_controller::write_address(to_controller(gc), byte))
 }
 
 fn data_of(gc: ControllerRecord, byte: u8) -> ControllerAnswer
     ensures { λ r. ⌜ outcome (answerSaid (r .answer)) (r .gc) ≡ graphicsHosted gc (one 0) (gcWriteData byte) ⌝ }
 {
     if !known_controller(gc) {
-        return ControllerAnswer {
-            answer: unknown(),
-            gc,
-        };
+        return unknown_controller(gc);
     }
-    let r = graphics_controller::write_data(to_controller(gc), byte);
-    let answer = r.answer;
-    let next = r.gc;
-    ControllerAnswer {
-        answer: of_done(answer),
-        gc: of_controller(next),
-    }
+    of_graphics_done(graphics_controller::write_data(to_controller(gc), byte))
 }
 
 // Any record is taken; latches and counters go back to the start too.

@@ -1,5 +1,5 @@
 -- What the proofs of the sequencer's code, and of the crates above it, cite: its registers' bytes, where chain-four leads, its mask as a number.
-use Prim.Native.Nat.{ℕ, zero, suc, _+_, _-_, _*_, _/_, _%_, _^_, _≤_, _<_, min}
+use Prim.Native.Nat.{ℕ, _+_, _-_, _*_, _/_, _%_, _^_, _≤_, _<_, min}
 use native.Mathlib.Nat.{lt-of-le-of-lt, mod-eq-of-lt, zero-mul}
 use native.Mathlib.Omega.{arith}
 use mathlib.Core.Path.{_≡_, refl, sym, ap, _∙_}
@@ -15,8 +15,7 @@ use Rattle.bits.proofs.Bitwise.{bit-and, shr-and-one, and-one-shl}
 use Rattle.bits.proofs.Decide.{agree1, agree2}
 use Rattle.machine.specs.declared.sequencer.Sequencer.{Sequencer}
 use Rattle.machine.specs.declared.sequencer.OddEvenMode.the-variants.{OddEven, Sequential}
-use Rattle.machine.specs.declared.sequencer.SequencerRegister.the-variants.{Invalid}
-use Rattle.machine.specs.Sequencer.{selectsSeq, divisorOf, clockOf, fitsSeq, seqOddEven, isSeqOddEven, chainFour, inMask, storedAt, gcReadAt}
+use Rattle.machine.specs.Sequencer.{divisorOf, clockOf, fitsSeq, seqOddEven, isSeqOddEven, chainFour, inMask, storedAt, gcReadAt}
 use Rattle.machine.proofs.Laws.{both}
 use Rattle.sequencer_registers.specs.Mask.{maskOf}
 
@@ -31,16 +30,6 @@ test-lt true = omega arith
 test-lt false = omega arith
 
 -- ---- registers
-
--- others select Invalid
-pub selects-invalid : (x : ℕ) → 4 < x → Invalid ≡ selectsSeq x
-unfolding selectsSeq
-selects-invalid zero h = absurd (omega arith)
-selects-invalid (suc zero) h = absurd (omega arith)
-selects-invalid (suc (suc zero)) h = absurd (omega arith)
-selects-invalid (suc (suc (suc zero))) h = absurd (omega arith)
-selects-invalid (suc (suc (suc (suc zero)))) h = absurd (omega arith)
-selects-invalid (suc (suc (suc (suc (suc x))))) h = refl
 
 -- data lose bits 6 and 7, then a register keeps its low n
 pub data-keeps : (n x : ℕ) → bitAnd (bitAnd x 63) (2 ^ n - 1) ≡ x % 64 % 2 ^ n

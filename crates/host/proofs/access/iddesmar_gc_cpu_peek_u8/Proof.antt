@@ -1,10 +1,9 @@
 -- Refusal 6 where a number selects no register, else as `cpu_peek_u8` of the records that are meant.
-use mathlib.Core.Path.{refl, sym, ap, _∙_}
-use borrow.Author.Tests.{not-true, not-false}
+use mathlib.Core.Path.{refl, ap}
 use Rattle.machine.specs.Memory.{mem}
 use Rattle.machine.specs.Answers.{one}
-use Rattle.host.specs.Hosted.{answerSaid}
-use Rattle.host.proofs.Laws.{cpu-unknown, cpu-asked}
+use Rattle.host_records.specs.Answers.{answerSaid}
+use Rattle.host.proofs.Laws.{unknown-of, known-of, cpu-unknown, cpu-asked}
 use borrow.Author.Needs.{needs}
 use Rattle.host.proofs.access.iddesmar_gc_cpu_peek_u8.Statement.{statement}
 use Rattle.host.proofs.access.iddesmar_gc_cpu_peek_u8.Tie as tie
@@ -18,7 +17,7 @@ unknown-requires c κs = search needs
 returns : tie.Need-returns
 returns c =
     let a = c .before .before .before .before .before .before .before .before .args in
-    cpu-unknown (a .gc) (a .seq) (mem (a .p0 .now) (a .p1 .now) (a .p2 .now) (a .p3 .now) (a .picture .now)) (one 0) _ (sym (not-true _ (c .before .if1 .taken)) ∙ c .before .before .known .ensures) _ _ (ap answerSaid (c .unknown .ensures)) refl
+    cpu-unknown (a .gc) (a .seq) (mem (a .p0 .now) (a .p1 .now) (a .p2 .now) (a .p3 .now) (a .picture .now)) (one 0) _ (unknown-of (c .before .if1 .taken) (c .before .before .known .ensures)) _ _ (ap answerSaid (c .unknown .ensures)) refl
 
 to-controller-requires : tie.Need-to-controller-requires
 to-controller-requires c κs = search needs
@@ -35,7 +34,7 @@ of-byte-requires c κs = search needs
 returns-2 : tie.Need-returns-2
 returns-2 c =
     let a = c .before .before .before .before .before .before .before .before .before .before .before .args in
-    cpu-asked (a .gc) (a .seq) (mem (a .p0 .now) (a .p1 .now) (a .p2 .now) (a .p3 .now) (a .picture .now)) (one 0) _ (sym (not-false _ (c .before .before .before .before .if1 .left)) ∙ c .before .before .before .before .before .known .ensures) _ _ (c .before .before .before .to-controller .ensures) (c .before .before .to-sequencer .ensures) _ _ (c .of-byte .ensures) (c .before .cpu-peek-u8 .ensures)
+    cpu-asked (a .gc) (a .seq) (mem (a .p0 .now) (a .p1 .now) (a .p2 .now) (a .p3 .now) (a .picture .now)) (one 0) _ (known-of (c .before .before .before .before .if1 .left) (c .before .before .before .before .before .known .ensures)) _ _ (c .before .before .before .to-controller .ensures) (c .before .before .to-sequencer .ensures) _ _ (c .of-byte .ensures) (c .before .cpu-peek-u8 .ensures)
 
 pub iddesmar-gc-cpu-peek-u8-spec : {M : Type 1} → statement M
 iddesmar-gc-cpu-peek-u8-spec =

@@ -45,22 +45,23 @@ use denote.Exit.{yes}
 use Rattle.machine.specs.Memory.{mem as memory}
 use Rattle.machine.specs.Answers.{outcome, one}
 use Rattle.machine.specs.Calls.{cpuWrite}
-use Rattle.host.specs.Hosted.{answerSaid, held, cpuHosted}
-use Rattle.host.specs.declared.record.ControllerRecord.{ControllerRecord}
-use Rattle.host.specs.declared.record.SequencerRecord.{SequencerRecord}
-use Rattle.host.specs.declared.answer.StatsAnswer.{StatsAnswer}
-use Rattle.host.proofs.record.ControllerRecord as G
-use Rattle.host.proofs.record.ControllerRecord.Laws as G′
-use Rattle.host.proofs.record.SequencerRecord as S
-use Rattle.host.proofs.record.SequencerRecord.Laws as S′
-use Rattle.host.proofs.answer.Answer as N
-use Rattle.host.proofs.answer.Answer.Laws as N′
-use Rattle.host.proofs.answer.StatsAnswer as R
-use Rattle.host.proofs.answer.StatsAnswer.Laws as R′
-use Rattle.host.proofs.InPlace.{Bytes, gval, sval, head-is, stats-rval, stats-aval, stats-an-is, stats-is, stats-gc-is}
-use Rattle.host.specs.Records.{withStats}
-use Rattle.host.proofs.record.StatsRecord as T
-use Rattle.host.proofs.record.StatsRecord.Laws as T′
+use Rattle.host_records.specs.Answers.{answerSaid}
+use Rattle.host.specs.Hosted.{held, cpuHosted}
+use Rattle.host_records.specs.declared.record.ControllerRecord.{ControllerRecord}
+use Rattle.host_records.specs.declared.record.SequencerRecord.{SequencerRecord}
+use Rattle.host_records.specs.declared.answer.StatsAnswer.{StatsAnswer}
+use Rattle.host_records.proofs.record.ControllerRecord as G
+use Rattle.host_records.proofs.record.ControllerRecord.Laws as G′
+use Rattle.host_records.proofs.record.SequencerRecord as S
+use Rattle.host_records.proofs.record.SequencerRecord.Laws as S′
+use Rattle.host_records.proofs.answer.Answer as N
+use Rattle.host_records.proofs.answer.Answer.Laws as N′
+use Rattle.host_records.proofs.answer.StatsAnswer as R
+use Rattle.host_records.proofs.answer.StatsAnswer.Laws as R′
+use Rattle.host_records.proofs.InPlace.{Bytes, gval, sval, head-is, stats-rval, stats-aval, stats-an-is, stats-is, stats-gc-is}
+use Rattle.host_records.specs.Records.{withStats}
+use Rattle.host_records.proofs.record.StatsRecord as T
+use Rattle.host_records.proofs.record.StatsRecord.Laws as T′
 use Rattle.host.proofs.access.write_of as by-value
 use Rattle.host.proofs.access.write_of.Symbol as by-value-def
 use Rattle.host.proofs.access.write_of.Symbol.{name as #by-value}

@@ -1,10 +1,9 @@
 -- Refusal 6 where a number selects no register, else the pixels that `serialize` hands back.
-use mathlib.Core.Path.{refl, sym, ap, _∙_}
+use mathlib.Core.Path.{refl}
 use mathlib.Core.List.{[]}
-use borrow.Author.Tests.{not-true, not-false}
 use Rattle.machine.specs.Memory.{mem}
 use Rattle.machine.specs.Answers.{said, part}
-use Rattle.host.proofs.Laws.{cpu-unknown, cpu-asked, shown-of}
+use Rattle.host.proofs.Laws.{unknown-of, known-of, cpu-unknown, cpu-asked, shown-of}
 use borrow.Author.Needs.{needs}
 use Rattle.host.proofs.access.iddesmar_gc_serialize.Statement.{statement}
 use Rattle.host.proofs.access.iddesmar_gc_serialize.Tie as tie
@@ -18,7 +17,7 @@ unknown-shown-requires c κs = search needs
 returns : tie.Need-returns
 returns c =
     let a = c .before .before .before .before .before .before .before .before .args in
-    shown-of (said 6 (part [])) _ _ _ (c .unknown-shown .ensures) (cpu-unknown (a .gc) (a .seq) (mem (a .p0 .now) (a .p1 .now) (a .p2 .now) (a .p3 .now) (a .picture .now)) (part []) _ (sym (not-true _ (c .before .if1 .taken)) ∙ c .before .before .known .ensures) _ _ refl refl)
+    shown-of (said 6 (part [])) _ _ _ (c .unknown-shown .ensures) (cpu-unknown (a .gc) (a .seq) (mem (a .p0 .now) (a .p1 .now) (a .p2 .now) (a .p3 .now) (a .picture .now)) (part []) _ (unknown-of (c .before .if1 .taken) (c .before .before .known .ensures)) _ _ refl refl)
 
 to-controller-requires : tie.Need-to-controller-requires
 to-controller-requires c κs = search needs
@@ -35,7 +34,7 @@ of-part-requires c κs = search needs
 returns-2 : tie.Need-returns-2
 returns-2 c =
     let a = c .before .before .before .before .before .before .before .before .before .before .before .before .args in
-    shown-of _ _ _ _ (c .of-part .ensures) (cpu-asked (a .gc) (a .seq) (mem (a .p0 .now) (a .p1 .now) (a .p2 .now) (a .p3 .now) (a .picture .now)) (part []) _ (sym (not-false _ (c .before .before .before .before .before .if1 .left)) ∙ c .before .before .before .before .before .before .known .ensures) _ _ (c .before .before .before .before .to-controller .ensures) (c .before .before .before .to-sequencer .ensures) _ _ refl (c .before .serialize .ensures))
+    shown-of _ _ _ _ (c .of-part .ensures) (cpu-asked (a .gc) (a .seq) (mem (a .p0 .now) (a .p1 .now) (a .p2 .now) (a .p3 .now) (a .picture .now)) (part []) _ (known-of (c .before .before .before .before .before .if1 .left) (c .before .before .before .before .before .before .known .ensures)) _ _ (c .before .before .before .before .to-controller .ensures) (c .before .before .before .to-sequencer .ensures) _ _ refl (c .before .serialize .ensures))
 
 pub iddesmar-gc-serialize-spec : {M : Type 1} → statement M
 iddesmar-gc-serialize-spec =

@@ -1,10 +1,9 @@
 -- Refusal 6 where a number selects no register, else as `read_linear` of the record that is meant.
-use mathlib.Core.Path.{sym, ap, _∙_}
-use borrow.Author.Tests.{not-true, not-false}
+use mathlib.Core.Path.{ap}
 use Rattle.machine.specs.Memory.{mem}
 use Rattle.machine.specs.Answers.{pixel}
-use Rattle.host.specs.Hosted.{pixelAnswerSaid}
-use Rattle.host.proofs.Laws.{direct-unknown, direct-known}
+use Rattle.host_records.specs.Answers.{pixelAnswerSaid}
+use Rattle.host.proofs.Laws.{unknown-of, known-of, direct-unknown, direct-known}
 use borrow.Author.Needs.{needs}
 use Rattle.host.proofs.direct.iddesmar_seq_read_linear.Statement.{statement}
 use Rattle.host.proofs.direct.iddesmar_seq_read_linear.Tie as tie
@@ -18,7 +17,7 @@ unknown-requires c κs = search needs
 returns : tie.Need-returns
 returns c =
     let a = c .before .before .before .before .before .before .before .before .args in
-    direct-unknown (a .seq) (mem (a .p0 .now) (a .p1 .now) (a .p2 .now) (a .p3 .now) (a .picture .now)) (pixel 0) _ (sym (not-true _ (c .before .if1 .taken)) ∙ c .before .before .known-sequencer .ensures) _ (ap pixelAnswerSaid (c .unknown .ensures))
+    direct-unknown (a .seq) (mem (a .p0 .now) (a .p1 .now) (a .p2 .now) (a .p3 .now) (a .picture .now)) (pixel 0) _ (unknown-of (c .before .if1 .taken) (c .before .before .known-sequencer .ensures)) _ (ap pixelAnswerSaid (c .unknown .ensures))
 
 to-sequencer-requires : tie.Need-to-sequencer-requires
 to-sequencer-requires c κs = search needs
@@ -32,7 +31,7 @@ of-pixel-requires c κs = search needs
 returns-2 : tie.Need-returns-2
 returns-2 c =
     let a = c .before .before .before .before .before .before .before .before .before .before .args in
-    direct-known (a .seq) (mem (a .p0 .now) (a .p1 .now) (a .p2 .now) (a .p3 .now) (a .picture .now)) (pixel 0) _ (sym (not-false _ (c .before .before .before .if1 .left)) ∙ c .before .before .before .before .known-sequencer .ensures) _ (c .before .before .to-sequencer .ensures) _ _ _ (c .of-pixel .ensures) (c .before .read-linear .ensures)
+    direct-known (a .seq) (mem (a .p0 .now) (a .p1 .now) (a .p2 .now) (a .p3 .now) (a .picture .now)) (pixel 0) _ (known-of (c .before .before .before .if1 .left) (c .before .before .before .before .known-sequencer .ensures)) _ (c .before .before .to-sequencer .ensures) _ _ _ (c .of-pixel .ensures) (c .before .read-linear .ensures)
 
 pub iddesmar-seq-read-linear-spec : {M : Type 1} → statement M
 iddesmar-seq-read-linear-spec =

@@ -1,9 +1,7 @@
 -- `address_of` answers 6 where a number selects no register, else as `write_address` of the record that is meant.
-use mathlib.Core.Path.{sym, ap, _∙_}
-use borrow.Author.Tests.{not-true, not-false}
+use mathlib.Core.Path.{refl, _∙_}
 use Rattle.machine.specs.Answers.{one}
-use Rattle.host.specs.Hosted.{answerSaid}
-use Rattle.host.proofs.Laws.{graphics-unknown, graphics-known}
+use Rattle.host.proofs.Laws.{unknown-of, known-of, graphics-unknown, graphics-known}
 use borrow.Author.Needs.{needs}
 use Rattle.host.proofs.ports.address_of.Statement.{statement}
 use Rattle.host.proofs.ports.address_of.Tie as tie
@@ -11,12 +9,12 @@ use Rattle.host.proofs.ports.address_of.Tie as tie
 known-controller-requires : tie.Need-known-controller-requires
 known-controller-requires c κs = search needs
 
-unknown-requires : tie.Need-unknown-requires
-unknown-requires c κs = search needs
+unknown-controller-requires : tie.Need-unknown-controller-requires
+unknown-controller-requires c κs = search needs
 
 returns : tie.Need-returns
 returns c =
-    graphics-unknown (c .before .before .before .args .gc) (one 0) _ (sym (not-true _ (c .before .if1 .taken)) ∙ c .before .before .known-controller .ensures) _ (ap answerSaid (c .unknown .ensures))
+    c .unknown-controller .ensures ∙ graphics-unknown (c .before .before .before .args .gc) (one 0) _ (unknown-of (c .before .if1 .taken) (c .before .before .known-controller .ensures)) _ refl
 
 to-controller-requires : tie.Need-to-controller-requires
 to-controller-requires c κs = search needs
@@ -24,25 +22,21 @@ to-controller-requires c κs = search needs
 write-address-requires : tie.Need-write-address-requires
 write-address-requires c κs = search needs
 
-of-done-requires : tie.Need-of-done-requires
-of-done-requires c κs = search needs
-
-of-controller-requires : tie.Need-of-controller-requires
-of-controller-requires c κs = search needs
+of-graphics-done-requires : tie.Need-of-graphics-done-requires
+of-graphics-done-requires c κs = search needs
 
 returns-2 : tie.Need-returns-2
 returns-2 c =
-    graphics-known (c .before .before .before .before .before .before .before .args .gc) (one 0) _ (sym (not-false _ (c .before .before .before .before .before .if1 .left)) ∙ c .before .before .before .before .before .before .known-controller .ensures) _ (c .before .before .before .before .to-controller .ensures) _ _ _ _ (c .before .of-done .ensures) (c .of-controller .ensures) (c .before .before .before .write-address .ensures)
+    graphics-known (c .before .before .before .before .before .args .gc) (one 0) _ (known-of (c .before .before .before .if1 .left) (c .before .before .before .before .known-controller .ensures)) _ (c .before .before .to-controller .ensures) _ _ _ (c .of-graphics-done .ensures) (c .before .write-address .ensures)
 
 pub address-of-spec : {M : Type 1} → statement M
 address-of-spec =
     tie.close
     (tie.spec
     known-controller-requires
-    unknown-requires
+    unknown-controller-requires
     returns
     to-controller-requires
     write-address-requires
-    of-done-requires
-    of-controller-requires
+    of-graphics-done-requires
     returns-2)

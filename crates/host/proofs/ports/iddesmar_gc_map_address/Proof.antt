@@ -1,8 +1,7 @@
 -- Refusal 6 where a number selects no register, else as `map_address` of the record that is meant.
-use mathlib.Core.Path.{refl, sym, ap, _∙_}
-use borrow.Author.Tests.{not-true, not-false}
+use mathlib.Core.Path.{refl}
 use Rattle.machine.specs.Answers.{two}
-use Rattle.host.proofs.Laws.{graphics-unknown, graphics-asked}
+use Rattle.host.proofs.Laws.{unknown-of, known-of, graphics-unknown, graphics-asked}
 use borrow.Author.Needs.{needs}
 use Rattle.host.proofs.ports.iddesmar_gc_map_address.Statement.{statement}
 use Rattle.host.proofs.ports.iddesmar_gc_map_address.Tie as tie
@@ -12,7 +11,7 @@ known-controller-requires c κs = search needs
 
 returns : tie.Need-returns
 returns c =
-    graphics-unknown (c .before .before .args .gc) (two 0 0) _ (sym (not-true _ (c .if1 .taken)) ∙ c .before .known-controller .ensures) _ refl
+    graphics-unknown (c .before .before .args .gc) (two 0 0) _ (unknown-of (c .if1 .taken) (c .before .known-controller .ensures)) _ refl
 
 to-controller-requires : tie.Need-to-controller-requires
 to-controller-requires c κs = search needs
@@ -25,7 +24,7 @@ of-mapped-requires c κs = search needs
 
 returns-2 : tie.Need-returns-2
 returns-2 c =
-    graphics-asked (c .before .before .before .before .before .args .gc) (two 0 0) _ (sym (not-false _ (c .before .before .before .if1 .left)) ∙ c .before .before .before .before .known-controller .ensures) _ (c .before .before .to-controller .ensures) _ _ (c .of-mapped .ensures) (c .before .map-address .ensures)
+    graphics-asked (c .before .before .before .before .before .args .gc) (two 0 0) _ (known-of (c .before .before .before .if1 .left) (c .before .before .before .before .known-controller .ensures)) _ (c .before .before .to-controller .ensures) _ _ (c .of-mapped .ensures) (c .before .map-address .ensures)
 
 pub iddesmar-gc-map-address-spec : {M : Type 1} → statement M
 iddesmar-gc-map-address-spec =

@@ -1,9 +1,8 @@
 -- Refusal 6 where a number selects no register, else as `read_address` of the record that is meant.
-use mathlib.Core.Path.{sym, ap, _∙_}
-use borrow.Author.Tests.{not-true, not-false}
+use mathlib.Core.Path.{ap}
 use Rattle.machine.specs.Answers.{one}
-use Rattle.host.specs.Hosted.{answerSaid}
-use Rattle.host.proofs.Laws.{graphics-unknown, graphics-asked}
+use Rattle.host_records.specs.Answers.{answerSaid}
+use Rattle.host.proofs.Laws.{unknown-of, known-of, graphics-unknown, graphics-asked}
 use borrow.Author.Needs.{needs}
 use Rattle.host.proofs.ports.iddesmar_gc_read_address.Statement.{statement}
 use Rattle.host.proofs.ports.iddesmar_gc_read_address.Tie as tie
@@ -16,7 +15,7 @@ unknown-requires c κs = search needs
 
 returns : tie.Need-returns
 returns c =
-    graphics-unknown (c .before .before .before .args .gc) (one 0) _ (sym (not-true _ (c .before .if1 .taken)) ∙ c .before .before .known-controller .ensures) _ (ap answerSaid (c .unknown .ensures))
+    graphics-unknown (c .before .before .before .args .gc) (one 0) _ (unknown-of (c .before .if1 .taken) (c .before .before .known-controller .ensures)) _ (ap answerSaid (c .unknown .ensures))
 
 to-controller-requires : tie.Need-to-controller-requires
 to-controller-requires c κs = search needs
@@ -29,7 +28,7 @@ of-byte-requires c κs = search needs
 
 returns-2 : tie.Need-returns-2
 returns-2 c =
-    graphics-asked (c .before .before .before .before .before .args .gc) (one 0) _ (sym (not-false _ (c .before .before .before .if1 .left)) ∙ c .before .before .before .before .known-controller .ensures) _ (c .before .before .to-controller .ensures) _ _ (c .of-byte .ensures) (c .before .read-address .ensures)
+    graphics-asked (c .before .before .before .before .before .args .gc) (one 0) _ (known-of (c .before .before .before .if1 .left) (c .before .before .before .before .known-controller .ensures)) _ (c .before .before .to-controller .ensures) _ _ (c .of-byte .ensures) (c .before .read-address .ensures)
 
 pub iddesmar-gc-read-address-spec : {M : Type 1} → statement M
 iddesmar-gc-read-address-spec =

@@ -2,7 +2,7 @@
 use mathlib.Core.Path.{sym, ap, _∙_}
 use Rattle.machine.specs.declared.graphics.GraphicsController.{GraphicsController}
 use Rattle.machine.specs.Answers.{Outcome, outcome}
-use Rattle.host.specs.Records.{recordOf}
+use Rattle.host_records.specs.Records.{recordOf}
 use borrow.Author.Needs.{needs}
 use Rattle.host.proofs.ports.reset_of.Statement.{statement}
 use Rattle.host.proofs.ports.reset_of.Tie as tie

@@ -1,9 +1,7 @@
 -- Refusal 6 where a number selects no register, else as `poll_clock_change` of the record that is meant.
-use mathlib.Core.Path.{sym, ap, _∙_}
-use borrow.Author.Tests.{not-true, not-false}
+use mathlib.Core.Path.{refl, _∙_}
 use Rattle.machine.specs.Answers.{one}
-use Rattle.host.specs.Hosted.{answerSaid}
-use Rattle.host.proofs.Laws.{seq-unknown, seq-known}
+use Rattle.host.proofs.Laws.{unknown-of, known-of, seq-unknown, seq-known}
 use borrow.Author.Needs.{needs}
 use Rattle.host.proofs.sequencer_ports.iddesmar_seq_poll_clock_change.Statement.{statement}
 use Rattle.host.proofs.sequencer_ports.iddesmar_seq_poll_clock_change.Tie as tie
@@ -11,12 +9,12 @@ use Rattle.host.proofs.sequencer_ports.iddesmar_seq_poll_clock_change.T
 known-sequencer-requires : tie.Need-known-sequencer-requires
 known-sequencer-requires c κs = search needs
 
-unknown-requires : tie.Need-unknown-requires
-unknown-requires c κs = search needs
+unknown-sequencer-requires : tie.Need-unknown-sequencer-requires
+unknown-sequencer-requires c κs = search needs
 
 returns : tie.Need-returns
 returns c =
-    seq-unknown (c .before .before .before .args .seq) (one 0) _ (sym (not-true _ (c .before .if1 .taken)) ∙ c .before .before .known-sequencer .ensures) _ (ap answerSaid (c .unknown .ensures))
+    c .unknown-sequencer .ensures ∙ seq-unknown (c .before .before .before .args .seq) (one 0) _ (unknown-of (c .before .if1 .taken) (c .before .before .known-sequencer .ensures)) _ refl
 
 to-sequencer-requires : tie.Need-to-sequencer-requires
 to-sequencer-requires c κs = search needs
@@ -24,25 +22,21 @@ to-sequencer-requires c κs = search needs
 poll-clock-change-requires : tie.Need-poll-clock-change-requires
 poll-clock-change-requires c κs = search needs
 
-of-flag-requires : tie.Need-of-flag-requires
-of-flag-requires c κs = search needs
-
-of-sequencer-requires : tie.Need-of-sequencer-requires
-of-sequencer-requires c κs = search needs
+of-sequencer-flag-requires : tie.Need-of-sequencer-flag-requires
+of-sequencer-flag-requires c κs = search needs
 
 returns-2 : tie.Need-returns-2
 returns-2 c =
-    seq-known (c .before .before .before .before .before .before .before .args .seq) (one 0) _ (sym (not-false _ (c .before .before .before .before .before .if1 .left)) ∙ c .before .before .before .before .before .before .known-sequencer .ensures) _ (c .before .before .before .before .to-sequencer .ensures) _ _ _ _ (c .before .of-flag .ensures) (c .of-sequencer .ensures) (c .before .before .before .poll-clock-change .ensures)
+    seq-known (c .before .before .before .before .before .args .seq) (one 0) _ (known-of (c .before .before .before .if1 .left) (c .before .before .before .before .known-sequencer .ensures)) _ (c .before .before .to-sequencer .ensures) _ _ _ (c .of-sequencer-flag .ensures) (c .before .poll-clock-change .ensures)
 
 pub iddesmar-seq-poll-clock-change-spec : {M : Type 1} → statement M
 iddesmar-seq-poll-clock-change-spec =
     tie.close
     (tie.spec
     known-sequencer-requires
-    unknown-requires
+    unknown-sequencer-requires
     returns
     to-sequencer-requires
     poll-clock-change-requires
-    of-flag-requires
-    of-sequencer-requires
+    of-sequencer-flag-requires
     returns-2)

@@ -2,7 +2,7 @@
 use mathlib.Core.Path.{sym, ap, _∙_}
 use Rattle.machine.specs.declared.sequencer.Sequencer.{Sequencer}
 use Rattle.machine.specs.Answers.{Outcome, outcome}
-use Rattle.host.specs.Records.{sequencerRecordOf}
+use Rattle.host_records.specs.Records.{sequencerRecordOf}
 use borrow.Author.Needs.{needs}
 use Rattle.host.proofs.sequencer_ports.iddesmar_seq_reset.Statement.{statement}
 use Rattle.host.proofs.sequencer_ports.iddesmar_seq_reset.Tie as tie

@@ -1,9 +1,7 @@
 -- Refusal 6 where a number selects no register, else as `write_data` of the record that is meant.
-use mathlib.Core.Path.{sym, ap, _∙_}
-use borrow.Author.Tests.{not-true, not-false}
+use mathlib.Core.Path.{refl, _∙_}
 use Rattle.machine.specs.Answers.{one}
-use Rattle.host.specs.Hosted.{answerSaid}
-use Rattle.host.proofs.Laws.{seq-unknown, seq-known}
+use Rattle.host.proofs.Laws.{unknown-of, known-of, seq-unknown, seq-known}
 use borrow.Author.Needs.{needs}
 use Rattle.host.proofs.sequencer_ports.iddesmar_seq_write_data.Statement.{statement}
 use Rattle.host.proofs.sequencer_ports.iddesmar_seq_write_data.Tie as tie
@@ -11,12 +9,12 @@ use Rattle.host.proofs.sequencer_ports.iddesmar_seq_write_data.Tie as t
 known-sequencer-requires : tie.Need-known-sequencer-requires
 known-sequencer-requires c κs = search needs
 
-unknown-requires : tie.Need-unknown-requires
-unknown-requires c κs = search needs
+unknown-sequencer-requires : tie.Need-unknown-sequencer-requires
+unknown-sequencer-requires c κs = search needs
 
 returns : tie.Need-returns
 returns c =
-    seq-unknown (c .before .before .before .args .seq) (one 0) _ (sym (not-true _ (c .before .if1 .taken)) ∙ c .before .before .known-sequencer .ensures) _ (ap answerSaid (c .unknown .ensures))
+    c .unknown-sequencer .ensures ∙ seq-unknown (c .before .before .before .args .seq) (one 0) _ (unknown-of (c .before .if1 .taken) (c .before .before .known-sequencer .ensures)) _ refl
 
 to-sequencer-requires : tie.Need-to-sequencer-requires
 to-sequencer-requires c κs = search needs
@@ -24,25 +22,21 @@ to-sequencer-requires c κs = search needs
 write-data-requires : tie.Need-write-data-requires
 write-data-requires c κs = search needs
 
-of-done-requires : tie.Need-of-done-requires
-of-done-requires c κs = search needs
-
-of-sequencer-requires : tie.Need-of-sequencer-requires
-of-sequencer-requires c κs = search needs
+of-sequencer-done-requires : tie.Need-of-sequencer-done-requires
+of-sequencer-done-requires c κs = search needs
 
 returns-2 : tie.Need-returns-2
 returns-2 c =
-    seq-known (c .before .before .before .before .before .before .before .args .seq) (one 0) _ (sym (not-false _ (c .before .before .before .before .before .if1 .left)) ∙ c .before .before .before .before .before .before .known-sequencer .ensures) _ (c .before .before .before .before .to-sequencer .ensures) _ _ _ _ (c .before .of-done .ensures) (c .of-sequencer .ensures) (c .before .before .before .write-data .ensures)
+    seq-known (c .before .before .before .before .before .args .seq) (one 0) _ (known-of (c .before .before .before .if1 .left) (c .before .before .before .before .known-sequencer .ensures)) _ (c .before .before .to-sequencer .ensures) _ _ _ (c .of-sequencer-done .ensures) (c .before .write-data .ensures)
 
 pub iddesmar-seq-write-data-spec : {M : Type 1} → statement M
 iddesmar-seq-write-data-spec =
     tie.close
     (tie.spec
     known-sequencer-requires
-    unknown-requires
+    unknown-sequencer-requires
     returns
     to-sequencer-requires
     write-data-requires
-    of-done-requires
-    of-sequencer-requires
+    of-sequencer-done-requires
     returns-2)

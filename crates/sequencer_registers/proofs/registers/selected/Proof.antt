@@ -1,7 +1,7 @@
 -- `selected` names the register of each address byte.
 use native.Mathlib.Omega.{arith}
 use Rattle.machine.specs.Sequencer.{selectsSeq}
-use Rattle.sequencer_registers.proofs.Laws.{selects-invalid}
+use Rattle.fields.proofs.Selects.{selects-invalid}
 use Rattle.sequencer_registers.proofs.registers.selected.Statement.{statement}
 use Rattle.sequencer_registers.proofs.registers.selected.Tie as tie
 

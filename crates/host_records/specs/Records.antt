@@ -1,0 +1,117 @@
+-- How a host's records, numbers alone, are read as the machine's, and the machine's as a host's.
+use mathlib.Core.Bool.{Bool, _&&_}
+use lib.Dec.{leb}
+use Rattle.machine.specs.declared.graphics.GraphicsController.{GraphicsController}
+use Rattle.machine.specs.declared.graphics.GraphicsControllerStats.{GraphicsControllerStats}
+use Rattle.machine.specs.declared.graphics.GraphicsRegister.the-variants.{BitMask}
+use Rattle.machine.specs.declared.sequencer.Sequencer.{Sequencer}
+use Rattle.machine.specs.Graphics.{selects, registerNumber, gcOf}
+use Rattle.machine.specs.Sequencer.{selectsSeq, seqNumber}
+use Rattle.host_records.specs.declared.record.StatsRecord.{StatsRecord}
+use Rattle.host_records.specs.declared.record.ControllerRecord.{ControllerRecord}
+use Rattle.host_records.specs.declared.record.SequencerRecord.{SequencerRecord}
+
+-- whether the selected register is a register's number: 0 to 8
+abbrev pub knownGc : ControllerRecord → Bool
+knownGc g = leb (g .«register_selected») 8
+
+-- 0 to 5, `Invalid` the last
+abbrev pub knownSeq : SequencerRecord → Bool
+knownSeq s = leb (s .«register_selected») 5
+
+-- both
+abbrev pub known : ControllerRecord → SequencerRecord → Bool
+known g s = knownGc g && knownSeq s
+
+-- the counters
+abbrev pub statsOf : StatsRecord → GraphicsControllerStats
+statsOf c = record { «mode_0_writes» = c .«mode_0_writes»; «mode_1_writes» = c .«mode_1_writes»; «mode_2_writes» = c .«mode_2_writes»; «mode_3_writes» = c .«mode_3_writes»; «mode_0_reads» = c .«mode_0_reads»; «mode_1_reads» = c .«mode_1_reads» }
+
+-- the counters as a host keeps them
+abbrev pub statsRecordOf : GraphicsControllerStats → StatsRecord
+statsRecordOf c = record { «mode_0_writes» = c .«mode_0_writes»; «mode_1_writes» = c .«mode_1_writes»; «mode_2_writes» = c .«mode_2_writes»; «mode_3_writes» = c .«mode_3_writes»; «mode_0_reads» = c .«mode_0_reads»; «mode_1_reads» = c .«mode_1_reads» }
+
+-- the controller that a host's record of known number means
+abbrev pub controllerOf : ControllerRecord → GraphicsController
+controllerOf g = gcOf
+    (record {
+      «register_select_byte» = g .«register_select_byte»;
+      «register_selected» = selects (g .«register_selected») BitMask;
+      «set_reset» = g .«set_reset»;
+      «enable_set_reset» = g .«enable_set_reset»;
+      «color_compare» = g .«color_compare»;
+      «data_rotate» = g .«data_rotate»;
+      «read_map_select» = g .«read_map_select»;
+      mode = g .mode;
+      miscellaneous = g .miscellaneous;
+      «color_dont_care» = g .«color_dont_care»;
+      bitmask = g .bitmask;
+    })
+    (statsOf (g .stats))
+    (g .latches)
+
+-- a controller as a host keeps it
+abbrev pub recordOf : GraphicsController → ControllerRecord
+recordOf g = record {
+  stats = statsRecordOf (g .stats);
+  «register_select_byte» = g .registers .«register_select_byte»;
+  «register_selected» = registerNumber (g .registers .«register_selected»);
+  «set_reset» = g .registers .«set_reset»;
+  «enable_set_reset» = g .registers .«enable_set_reset»;
+  «color_compare» = g .registers .«color_compare»;
+  «data_rotate» = g .registers .«data_rotate»;
+  «read_map_select» = g .registers .«read_map_select»;
+  mode = g .registers .mode;
+  miscellaneous = g .registers .miscellaneous;
+  «color_dont_care» = g .registers .«color_dont_care»;
+  bitmask = g .registers .bitmask;
+  latches = g .latches;
+}
+
+-- a host's record with other counters
+abbrev pub withStats : StatsRecord → ControllerRecord → ControllerRecord
+withStats c g = record {
+  stats = c;
+  «register_select_byte» = g .«register_select_byte»;
+  «register_selected» = g .«register_selected»;
+  «set_reset» = g .«set_reset»;
+  «enable_set_reset» = g .«enable_set_reset»;
+  «color_compare» = g .«color_compare»;
+  «data_rotate» = g .«data_rotate»;
+  «read_map_select» = g .«read_map_select»;
+  mode = g .mode;
+  miscellaneous = g .miscellaneous;
+  «color_dont_care» = g .«color_dont_care»;
+  bitmask = g .bitmask;
+  latches = g .latches;
+}
+
+-- the sequencer that a host's record of known number means
+abbrev pub sequencerOf : SequencerRecord → Sequencer
+sequencerOf s = record {
+  «address_byte» = s .«address_byte»;
+  «register_selected» = selectsSeq (s .«register_selected»);
+  reset = s .reset;
+  «clocking_mode» = s .«clocking_mode»;
+  «map_mask» = s .«map_mask»;
+  «character_map_select» = s .«character_map_select»;
+  «memory_mode» = s .«memory_mode»;
+  «clock_change_pending» = s .«clock_change_pending»;
+  «clock_divisor» = s .«clock_divisor»;
+  «char_clock» = s .«char_clock»;
+}
+
+-- a sequencer as a host keeps it
+abbrev pub sequencerRecordOf : Sequencer → SequencerRecord
+sequencerRecordOf s = record {
+  «address_byte» = s .«address_byte»;
+  «register_selected» = seqNumber (s .«register_selected»);
+  reset = s .reset;
+  «clocking_mode» = s .«clocking_mode»;
+  «map_mask» = s .«map_mask»;
+  «character_map_select» = s .«character_map_select»;
+  «memory_mode» = s .«memory_mode»;
+  «clock_change_pending» = s .«clock_change_pending»;
+  «clock_divisor» = s .«clock_divisor»;
+  «char_clock» = s .«char_clock»;
+}

@@ -1,0 +1,96 @@
+// An answer with the record that a call leaves, as a host keeps it, and refusal 6 with the record as it was handed in.
+ghost use mathlib.Core.Path.{_≡_};
+ghost use Rattle.machine.specs.Answers.{said, one, outcome, storeSaid, doneSaid, flagSaid};
+ghost use Rattle.machine.specs.Step.{lifted};
+ghost use Rattle.host_records.specs.Records.{statsRecordOf, recordOf, sequencerRecordOf};
+ghost use Rattle.host_records.specs.Answers.{answerSaid};
+use crate::answer::ControllerAnswer;
+use crate::answer::SequencerAnswer;
+use crate::answer::StatsAnswer;
+use crate::answer::of_done;
+use crate::answer::of_flag;
+use crate::answer::of_store;
+use crate::answer::unknown;
+use crate::record::ControllerRecord;
+use crate::record::SequencerRecord;
+use crate::record::of_controller;
+use crate::record::of_sequencer;
+use crate::record::of_stats;
+use machine::CpuStore;
+use machine::GraphicsDone;
+use machine::SequencerDone;
+use machine::SequencerFlag;
+
+pub fn unknown_sequencer(seq: SequencerRecord) -> SequencerAnswer
+    ensures { λ r. ⌜ outcome (answerSaid (r .answer)) (r .seq) ≡ outcome (said 6 (one 0)) seq ⌝ }
+{
+    SequencerAnswer {
+        answer: unknown(),
+        seq,
+    }
+}
+
+pub fn unknown_controller(gc: ControllerRecord) -> ControllerAnswer
+    ensures { λ r. ⌜ outcome (answerSaid (r .answer)) (r .gc) ≡ outcome (said 6 (one 0)) gc ⌝ }
+{
+    ControllerAnswer {
+        answer: unknown(),
+        gc,
+    }
+}
+
+pub fn unknown_counters(gc: ControllerRecord) -> StatsAnswer
+    ensures { λ r. ⌜ outcome (answerSaid (r .answer)) (r .stats) ≡ outcome (said 6 (one 0)) (gc .stats) ⌝ }
+{
+    let stats = gc.stats;
+    StatsAnswer {
+        answer: unknown(),
+        stats,
+    }
+}
+
+pub fn of_sequencer_done(left: SequencerDone) -> SequencerAnswer
+    ensures { λ r. ⌜ outcome (answerSaid (r .answer)) (r .seq) ≡ lifted sequencerRecordOf (outcome (doneSaid (left .answer)) (left .seq)) ⌝ }
+{
+    let answer = left.answer;
+    let next = left.seq;
+    SequencerAnswer {
+        answer: of_done(answer),
+        seq: of_sequencer(next),
+    }
+}
+
+pub fn of_sequencer_flag(left: SequencerFlag) -> SequencerAnswer
+    ensures { λ r. ⌜ outcome (answerSaid (r .answer)) (r .seq) ≡ lifted sequencerRecordOf (outcome (flagSaid (left .answer)) (left .seq)) ⌝ }
+{
+    let answer = left.answer;
+    let next = left.seq;
+    SequencerAnswer {
+        answer: of_flag(answer),
+        seq: of_sequencer(next),
+    }
+}
+
+pub fn of_graphics_done(left: GraphicsDone) -> ControllerAnswer
+    ensures { λ r. ⌜ outcome (answerSaid (r .answer)) (r .gc) ≡ lifted recordOf (outcome (doneSaid (left .answer)) (left .gc)) ⌝ }
+{
+    let answer = left.answer;
+    let next = left.gc;
+    ControllerAnswer {
+        answer: of_done(answer),
+        gc: of_controller(next),
+    }
+}
+
+// A write moves no register and no latch: the counters alone come back.
+pub fn of_cpu_store(left: CpuStore) -> StatsAnswer
+    ensures { λ r. ⌜ outcome (answerSaid (r .answer)) (r .stats) ≡ outcome (storeSaid (left .answer)) (statsRecordOf (left .gc .stats)) ⌝ }
+{
+    let answer = left.answer;
+    let gc = left.gc;
+    let stats = gc.stats;
+    StatsAnswer {
+        answer: of_store(answer),
+        stats: of_stats(stats),
+    }
+}

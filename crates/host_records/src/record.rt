@@ -1,0 +1,246 @@
+// The two records as a host keeps them: numbers and flags alone, since an enum cannot cross the boundary. The selected register is its number.
+ghost use mathlib.Core.Path.{_≡_};
+ghost use mathlib.Core.Bool.{_&&_};
+ghost use lib.Dec.{leb};
+ghost use Rattle.machine.specs.Graphics.{selects, registerNumber};
+ghost use Rattle.machine.specs.Sequencer.{selectsSeq, seqNumber};
+ghost use Rattle.host_records.specs.Records.{statsOf, statsRecordOf, controllerOf, recordOf, sequencerOf, sequencerRecordOf, knownGc as knowsGc, knownSeq as knowsSeq, known as knows};
+use machine::GraphicsController;
+use machine::GraphicsControllerStats;
+use machine::GraphicsRegister;
+use machine::GraphicsRegisters;
+use machine::Sequencer;
+use machine::SequencerRegister;
+
+// The counters.
+#[repr(C)]
+pub struct StatsRecord {
+    pub mode_0_writes: u32,
+    pub mode_1_writes: u32,
+    pub mode_2_writes: u32,
+    pub mode_3_writes: u32,
+    pub mode_0_reads: u32,
+    pub mode_1_reads: u32,
+}
+
+#[repr(C)]
+pub struct ControllerRecord {
+    pub stats: StatsRecord,
+    pub register_select_byte: u8,
+    pub register_selected: u8,
+    pub set_reset: u8,
+    pub enable_set_reset: u8,
+    pub color_compare: u8,
+    pub data_rotate: u8,
+    pub read_map_select: u8,
+    pub mode: u8,
+    pub miscellaneous: u8,
+    pub color_dont_care: u8,
+    pub bitmask: u8,
+    pub latches: [u8; 4],
+}
+
+#[repr(C)]
+pub struct SequencerRecord {
+    pub address_byte: u8,
+    pub register_selected: u8,
+    pub reset: u8,
+    pub clocking_mode: u8,
+    pub map_mask: u8,
+    pub character_map_select: u8,
+    pub memory_mode: u8,
+    pub clock_change_pending: bool,
+    pub clock_divisor: u32,
+    pub char_clock: u32,
+}
+
+// Whether the selected register is a register's number; a host can hand in any byte.
+pub fn known_controller(gc: ControllerRecord) -> bool
+    ensures { λ r. ⌜ r ≡ knowsGc gc ⌝ }
+{
+    gc.register_selected <= 8
+}
+
+pub fn known_sequencer(seq: SequencerRecord) -> bool
+    ensures { λ r. ⌜ r ≡ knowsSeq seq ⌝ }
+{
+    seq.register_selected <= 5
+}
+
+pub fn known(gc: ControllerRecord, seq: SequencerRecord) -> bool
+    ensures { λ r. ⌜ r ≡ knows gc seq ⌝ }
+{
+    if !known_controller(gc) {
+        return false;
+    }
+    known_sequencer(seq)
+}
+
+fn graphics_register(number: u8) -> GraphicsRegister
+    ensures { λ r. ⌜ r ≡ selects number GraphicsRegister.BitMask ⌝ }
+{
+    match number {
+        0 => GraphicsRegister::SetReset,
+        1 => GraphicsRegister::EnableSetReset,
+        2 => GraphicsRegister::ColorCompare,
+        3 => GraphicsRegister::DataRotate,
+        4 => GraphicsRegister::ReadMapSelect,
+        5 => GraphicsRegister::Mode,
+        6 => GraphicsRegister::Miscellaneous,
+        7 => GraphicsRegister::ColorDontCare,
+        _ => GraphicsRegister::BitMask,
+    }
+}
+
+fn graphics_number(register: GraphicsRegister) -> u8
+    ensures { λ r. ⌜ r ≡ registerNumber register ⌝ }
+{
+    match register {
+        GraphicsRegister::SetReset => 0,
+        GraphicsRegister::EnableSetReset => 1,
+        GraphicsRegister::ColorCompare => 2,
+        GraphicsRegister::DataRotate => 3,
+        GraphicsRegister::ReadMapSelect => 4,
+        GraphicsRegister::Mode => 5,
+        GraphicsRegister::Miscellaneous => 6,
+        GraphicsRegister::ColorDontCare => 7,
+        GraphicsRegister::BitMask => 8,
+    }
+}
+
+fn sequencer_register(number: u8) -> SequencerRegister
+    ensures { λ r. ⌜ r ≡ selectsSeq number ⌝ }
+{
+    match number {
+        0 => SequencerRegister::Reset,
+        1 => SequencerRegister::ClockingMode,
+        2 => SequencerRegister::MapMask,
+        3 => SequencerRegister::CharacterMapSelect,
+        4 => SequencerRegister::MemoryMode,
+        _ => SequencerRegister::Invalid,
+    }
+}
+
+fn sequencer_number(register: SequencerRegister) -> u8
+    ensures { λ r. ⌜ r ≡ seqNumber register ⌝ }
+{
+    match register {
+        SequencerRegister::Reset => 0,
+        SequencerRegister::ClockingMode => 1,
+        SequencerRegister::MapMask => 2,
+        SequencerRegister::CharacterMapSelect => 3,
+        SequencerRegister::MemoryMode => 4,
+        SequencerRegister::Invalid => 5,
+    }
+}
+
+fn to_stats(stats: StatsRecord) -> GraphicsControllerStats
+    ensures { λ r. ⌜ r ≡ statsOf stats ⌝ }
+{
+    GraphicsControllerStats {
+        mode_0_writes: stats.mode_0_writes,
+        mode_1_writes: stats.mode_1_writes,
+        mode_2_writes: stats.mode_2_writes,
+        mode_3_writes: stats.mode_3_writes,
+        mode_0_reads: stats.mode_0_reads,
+        mode_1_reads: stats.mode_1_reads,
+    }
+}
+
+pub fn of_stats(stats: GraphicsControllerStats) -> StatsRecord
+    ensures { λ r. ⌜ r ≡ statsRecordOf stats ⌝ }
+{
+    StatsRecord {
+        mode_0_writes: stats.mode_0_writes,
+        mode_1_writes: stats.mode_1_writes,
+        mode_2_writes: stats.mode_2_writes,
+        mode_3_writes: stats.mode_3_writes,
+        mode_0_reads: stats.mode_0_reads,
+        mode_1_reads: stats.mode_1_reads,
+    }
+}
+
+// A host's record as the machine's; callers ask `known` first.
+pub fn to_controller(gc: ControllerRecord) -> GraphicsController
+    ensures { λ r. ⌜ r ≡ controllerOf gc ⌝ }
+{
+    let latches = gc.latches;
+    let stats = gc.stats;
+    GraphicsController {
+        registers: GraphicsRegisters {
+            register_select_byte: gc.register_select_byte,
+            register_selected: graphics_register(gc.register_selected),
+            set_reset: gc.set_reset,
+            enable_set_reset: gc.enable_set_reset,
+            color_compare: gc.color_compare,
+            data_rotate: gc.data_rotate,
+            read_map_select: gc.read_map_select,
+            mode: gc.mode,
+            miscellaneous: gc.miscellaneous,
+            color_dont_care: gc.color_dont_care,
+            bitmask: gc.bitmask,
+        },
+        stats: to_stats(stats),
+        latches,
+    }
+}
+
+// The machine's record as a host keeps it.
+pub fn of_controller(gc: GraphicsController) -> ControllerRecord
+    ensures { λ r. ⌜ r ≡ recordOf gc ⌝ }
+{
+    let registers = gc.registers;
+    let stats = gc.stats;
+    let latches = gc.latches;
+    let selected = registers.register_selected;
+    ControllerRecord {
+        stats: of_stats(stats),
+        register_select_byte: registers.register_select_byte,
+        register_selected: graphics_number(selected),
+        set_reset: registers.set_reset,
+        enable_set_reset: registers.enable_set_reset,
+        color_compare: registers.color_compare,
+        data_rotate: registers.data_rotate,
+        read_map_select: registers.read_map_select,
+        mode: registers.mode,
+        miscellaneous: registers.miscellaneous,
+        color_dont_care: registers.color_dont_care,
+        bitmask: registers.bitmask,
+        latches,
+    }
+}
+
+pub fn to_sequencer(seq: SequencerRecord) -> Sequencer
+    ensures { λ r. ⌜ r ≡ sequencerOf seq ⌝ }
+{
+    Sequencer {
+        address_byte: seq.address_byte,
+        register_selected: sequencer_register(seq.register_selected),
+        reset: seq.reset,
+        clocking_mode: seq.clocking_mode,
+        map_mask: seq.map_mask,
+        character_map_select: seq.character_map_select,
+        memory_mode: seq.memory_mode,
+        clock_change_pending: seq.clock_change_pending,
+        clock_divisor: seq.clock_divisor,
+        char_clock: seq.char_clock,
+    }
+}
+
+pub fn of_sequencer(seq: Sequencer) -> SequencerRecord
+    ensures { λ r. ⌜ r ≡ sequencerRecordOf seq ⌝ }
+{
+    let selected = seq.register_selected;
+    SequencerRecord {
+        address_byte: seq.address_byte,
+        register_selected: sequencer_number(selected),
+        reset: seq.reset,
+        clocking_mode: seq.clocking_mode,
+        map_mask: seq.map_mask,
+        character_map_select: seq.character_map_select,
+        memory_mode: seq.memory_mode,
+        clock_change_pending: seq.clock_change_pending,
+        clock_divisor: seq.clock_divisor,
+        char_clock: seq.char_clock,
+    }
+}
