@@ -23,7 +23,7 @@ def source_edits(crate):
     """All edits of a crate's code, file by file."""
     fields, variants, constants = {}, {}, {}
     functions = {}
-    for c in (*tries.CODE, crate):
+    for c in (*tries.below(crate), crate):
         f, v, k = texts.declared(f'crates/{c}')
         fields, variants, constants = fields | f, variants | v, constants | k
         for path in Path(f'crates/{c}/src').glob('*.rt'):

@@ -45,9 +45,9 @@ def dev(crate):
 
 
 def uses(crate):
-    """The crates of the repository that a crate names."""
+    """The crates that a crate names; none where it is the kit's own."""
     row = re.search(rf'^{crate}:(.*)$', Path('crates.txt').read_text(), re.M)
-    return row.group(1).split()
+    return row.group(1).split() if row else []
 
 
 def below(crate):

@@ -1,58 +1,16 @@
 -- Any two outcomes that a call's contract permits for one input coincide: the result itself and every slice at exit. `Post` is each contract's own reading.
 use Prim.Native.Nat.{ℕ}
-use mathlib.Core.Path.{_≡_, refl, ap, sym, _∙_}
+use mathlib.Core.Path.{_≡_, ap, sym, _∙_}
 use mathlib.Core.List.{List}
 use contract.Lifetimes.{Lfts}
 use denote.Ref.{now}
 use denote.Triple.Clauses.{AtExit}
 use borrow.Fn.Kinds.{Dens, endedOf}
 use Rattle.machine.specs.Memory.{Memory, lent}
-use Rattle.machine.specs.Answers.{Value, one, two, pixel, part, Outcome, outcome}
-use Rattle.machine.specs.Step.{State, state}
-use Rattle.tape_reader.specs.declared.told.Handed.{Handed}
-use Rattle.tape_reader.specs.declared.told.Handed.the-variants.{Byte, Pixels, Nothing}
-use Rattle.tape_reader.specs.declared.calls.Performed.{Performed}
-use Rattle.tape_reader.specs.declared.whole.Ran.{Ran}
-use Rattle.tape_reader.specs.Told.{handedValue, toldSaid, handedOf}
-use Rattle.tape_reader.specs.Run.{Outcome as RunOutcome}
-use Rattle.tape_reader.proofs.calls.perform.Reads as perform
-use Rattle.tape_reader.proofs.calls.perform.Kinds as perform-kinds
+use Rattle.tape_machine.specs.declared.ran.Ran.{Ran}
+use Rattle.tape_machine.specs.Run.{Outcome}
 use Rattle.tape_reader.proofs.whole.run.Reads as run
 use Rattle.tape_reader.proofs.whole.run.Kinds as run-kinds
-
--- ---- an answer is told by its number and value: the way back
-
-handedBack : Value → Handed
-handedBack (one x) = Byte x
-handedBack (two x y) = Nothing
-handedBack (pixel x) = Nothing
-handedBack (part l) = handedOf l
-
-handed-back : (h : Handed) → handedBack (handedValue h) ≡ h
-unfolding handedBack handedOf
-handed-back (Byte x) = refl
-handed-back (Pixels x) = refl
-handed-back Nothing = refl
-
-performedBack : Outcome State → Performed
-performedBack o = record { told = record { number = o .answer .number; handed = handedBack (o .answer .value) }; gc = o .next .gc; seq = o .next .seq }
-
-performed-back : (r : Performed) (m : Memory) → performedBack (outcome (toldSaid (r .told)) (state (r .gc) (r .seq) m)) ≡ r
-unfolding performedBack
-performed-back r m = ap (λ (h : Handed). record { told = record { number = r .told .number; handed = h }; gc = r .gc; seq = r .seq }) (handed-back (r .told .handed))
-
-module _ (κs : Lfts 5) (a : Dens κs perform-kinds.ps) where
-  abbrev Done : Type 0
-  Done = AtExit (endedOf 5 perform-kinds.ps perform-kinds.r) κs
-
-  abbrev left : Done → Memory
-  left e = lent (e .1 .1 .0) (e .1 .1 .1 .0) (e .1 .1 .1 .1 .0) (e .1 .1 .1 .1 .1 .0) (e .1 .1 .1 .1 .1 .1 .0)
-
-  pub perform-determined : (r r′ : Performed) (e e′ : Done) → perform.Post κs a r e → perform.Post κs a r′ e′ → (r ≡ r′) × (left e ≡ left e′)
-  perform-determined r r′ e e′ p q = (
-    sym (performed-back r (left e)) ∙ ap performedBack (p ∙ sym q) ∙ performed-back r′ (left e′),
-    ap (λ (o : Outcome State). o .next .memory) (p ∙ sym q),
-  )
 
 module _ (κs : Lfts 7) (a : Dens κs run-kinds.ps) where
   abbrev Played : Type 0
@@ -66,7 +24,7 @@ module _ (κs : Lfts 7) (a : Dens κs run-kinds.ps) where
 
   pub run-determined : (r r′ : Ran) (e e′ : Played) → run.Post κs a r e → run.Post κs a r′ e′ → (r ≡ r′) × (after e ≡ after e′) × (text e ≡ text e′)
   run-determined r r′ e e′ p q = (
-    ap (λ (o : RunOutcome). o .ran) (p ∙ sym q),
-    ap (λ (o : RunOutcome). o .memory) (p ∙ sym q),
-    ap (λ (o : RunOutcome). o .out) (p ∙ sym q),
+    ap (λ (o : Outcome). o .ran) (p ∙ sym q),
+    ap (λ (o : Outcome). o .memory) (p ∙ sym q),
+    ap (λ (o : Outcome). o .out) (p ∙ sym q),
   )

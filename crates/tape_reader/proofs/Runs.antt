@@ -18,10 +18,10 @@ use Rattle.tape_records.specs.declared.records.Operation.the-variants.{Was}
 use Rattle.tape_records.specs.declared.records.Record.{Record}
 use Rattle.tape_records.specs.declared.records.Record.the-variants.{Whole, Broken}
 use Rattle.tape_records.specs.Records.{recordOf}
-use Rattle.tape_reader.specs.Performs.{performed}
-use Rattle.tape_reader.specs.Text.{Put}
-use Rattle.tape_reader.specs.Lines.{lineOf}
-use Rattle.tape_reader.specs.Run.{more, recordsAfter, recordsOf, operationNumber, faultSaid, recordLine, left, linesOf, ending, outcome, ranTo, playedOf}
+use Rattle.tape_machine.specs.Performs.{performed}
+use Rattle.tape_machine.specs.Text.{Put}
+use Rattle.tape_machine.specs.Lines.{lineOf}
+use Rattle.tape_machine.specs.Run.{more, recordsAfter, recordsOf, operationNumber, faultSaid, recordLine, left, linesOf, ending, outcome, ranTo, playedOf}
 use Rattle.tape_records.proofs.Sizes.{record-fits}
 use Rattle.tape_reader.proofs.Texts.{sets-append, put-length}
 

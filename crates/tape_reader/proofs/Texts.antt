@@ -3,7 +3,6 @@ use Prim.Native.Nat.{ℕ, zero, suc, _+_, _/_, _%_, _^_, _≤_, _<_}
 use native.Mathlib.Nat.{add-zero, add-suc, suc-add, add-assoc, div-lt-iff-lt-mul, pow-suc, mod-eq-of-lt}
 use native.Mathlib.Omega.{arith}
 use mathlib.Core.Path.{_≡_, ap, sym, _∙_}
-use mathlib.Core.Bool.{Bool, true, false}
 use mathlib.Core.List.{List, [], _∷_, _++_}
 use lib.Bits.{bitAnd, and-mask}
 use lib.Dec.{ltb, lit<}
@@ -12,7 +11,7 @@ use lib.Seq.{sets, length-sets}
 use borrow.Author.Tests.{lt-ltb, le-ltb}
 use Rattle.bits.specs.Bit.{pick}
 use Rattle.bits.proofs.Decide.{agree1}
-use Rattle.tape_reader.specs.Text.{digitsOf, decimalOf, fieldOf, hexDigits, hexOf, Put}
+use Rattle.tape_machine.specs.Text.{digitsOf, decimalOf, hexDigits, hexOf, Put}
 
 -- ---- one text after another
 
@@ -57,26 +56,6 @@ unfolding decimalOf digitsOf
 decimal-more n h f =
     let d : n / 10 < 10 ^ 19 = omega arith in
     rw (le-ltb n 10 h) (ap (λ (l : List ℕ). l ++ ((48 + n % 10) ∷ [])) (sym (enough 18 (n / 10) d)))
-
--- how long
-
-picked : (t : Bool) (l : List ℕ) (k : ℕ) → length l ≤ k → length (pick t [] l) ≤ k
-picked true l k h = omega arith
-picked false l k h = h
-
-digits-length : (k n : ℕ) → length (digitsOf k n) ≤ k
-unfolding digitsOf
-digits-length zero n = omega arith
-digits-length (suc k) n =
-    omega (arith, picked (ltb n 10) (digitsOf k (n / 10)) k (digits-length k (n / 10)), length-append (pick (ltb n 10) [] (digitsOf k (n / 10))) ((48 + n % 10) ∷ []))
-
-pub decimal-length : (n : ℕ) → length (decimalOf n) ≤ 20
-unfolding decimalOf
-decimal-length n = digits-length 20 n
-
-pub field-length : (n : ℕ) → length (fieldOf n) ≤ 21
-unfolding fieldOf
-field-length n = omega (arith, decimal-length n, length-append (decimalOf n) (32 ∷ []))
 
 -- ---- a pixel's digit
 

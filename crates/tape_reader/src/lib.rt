@@ -1,15 +1,13 @@
-// The tape: each record performed, and its line; a whole tape run.
-mod calls;
+// The tape: each record's line; a whole tape run.
 mod line;
 mod text;
-mod told;
 mod whole;
 
-pub use calls::Performed;
-pub use calls::perform;
-pub use told::Eight;
-pub use told::Handed;
-pub use told::Told;
+pub use tape_calls::Performed;
+pub use tape_calls::perform;
+pub use tape_machine::Eight;
+pub use tape_machine::Handed;
+pub use tape_machine::Ran;
+pub use tape_machine::Told;
 pub use whole::LONGEST;
-pub use whole::Ran;
 pub use whole::run;

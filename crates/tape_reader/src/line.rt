@@ -1,12 +1,12 @@
 // A record's line: its number, its operation, the answer's number, its value.
 ghost use Prim.Native.Nat.{_+_, _≤_};
 ghost use lib.ListN.{length};
-ghost use Rattle.tape_reader.specs.Told.{handedValue, toldSaid};
-ghost use Rattle.tape_reader.specs.Text.{Put};
-ghost use Rattle.tape_reader.specs.Lines.{nameOf, valueOf, lineOf};
+ghost use Rattle.tape_machine.specs.Told.{handedValue, toldSaid};
+ghost use Rattle.tape_machine.specs.Text.{Put};
+ghost use Rattle.tape_machine.specs.Lines.{nameOf, valueOf, lineOf};
 use crate::text;
-use crate::told::Handed;
-use crate::told::Told;
+use tape_machine::Handed;
+use tape_machine::Told;
 use tape_records::Operation;
 
 // An operation's number, or '-' where it was not read, and the blank after it.

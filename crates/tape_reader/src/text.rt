@@ -3,8 +3,8 @@ ghost use mathlib.Core.Path.{_≡_};
 ghost use mathlib.Core.List.{[], _∷_};
 ghost use Prim.Native.Nat.{_+_, _<_, _≤_};
 ghost use lib.ListN.{length};
-ghost use Rattle.tape_reader.specs.Text.{decimalOf, fieldOf, hexOf, hexTwo, hexFour, hexEight, Put};
-use crate::told::Eight;
+ghost use Rattle.tape_machine.specs.Text.{decimalOf, fieldOf, hexOf, hexTwo, hexFour, hexEight, Put};
+use tape_machine::Eight;
 
 pub fn put(out: &mut [u8], at: usize, byte: u8) -> usize
     requires { ⌜ at < length (now out) ⌝ }

@@ -4,16 +4,17 @@ ghost use Prim.Native.Nat.{_≤_};
 ghost use lib.ListN.{length};
 ghost use Rattle.machine.specs.Memory.{lent, before, after};
 ghost use Rattle.machine.specs.Step.{state};
-ghost use Rattle.tape_reader.specs.Told.{toldSaid};
-ghost use Rattle.tape_reader.specs.Run.{operationNumber, faultSaid, recordsOf, linesOf, outcome, endedOf, playedOf, runOf};
-use crate::calls::perform;
+ghost use Rattle.tape_machine.specs.Told.{toldSaid};
+ghost use Rattle.tape_machine.specs.Run.{operationNumber, faultSaid, recordsOf, linesOf, outcome, endedOf, playedOf, runOf};
 use crate::line::line;
-use crate::told::Handed;
-use crate::told::Told;
 use machine::DoneAnswer;
 use machine::GraphicsController;
 use machine::Refusal;
 use machine::Sequencer;
+use tape_calls::perform;
+use tape_machine::Handed;
+use tape_machine::Ran;
+use tape_machine::Told;
 use tape_records::Command;
 use tape_records::Fault;
 use tape_records::Operation;
@@ -22,14 +23,6 @@ use tape_records::decode;
 
 // The bytes of the longest line.
 pub const LONGEST: usize = 84;
-
-// Whether the lines had room, how many bytes were written, and both records as they are left.
-pub struct Ran {
-    pub answer: DoneAnswer,
-    pub written: usize,
-    pub gc: GraphicsController,
-    pub seq: Sequencer,
-}
 
 fn command_number(command: Command) -> u64
     ensures { λ r. ⌜ r ≡ operationNumber command ⌝ }

@@ -2,7 +2,7 @@
 use borrow.Author.Needs.{needs}
 use mathlib.Core.List.{[], _∷_}
 use native.Mathlib.Omega.{arith}
-use Rattle.tape_reader.specs.Lines.{nameOf}
+use Rattle.tape_machine.specs.Lines.{nameOf}
 use Rattle.tape_reader.proofs.Texts.{put-then, put-room}
 use Rattle.tape_reader.proofs.line.name.Statement.{statement}
 use Rattle.tape_reader.proofs.line.name.Tie as tie

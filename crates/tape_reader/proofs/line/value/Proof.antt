@@ -1,6 +1,6 @@
 -- `value` writes a byte, eight digits or 0: from the arm that was taken.
 use borrow.Author.Needs.{needs}
-use Rattle.tape_reader.specs.Lines.{valueOf}
+use Rattle.tape_machine.specs.Lines.{valueOf}
 use Rattle.tape_reader.proofs.line.value.Statement.{statement}
 use Rattle.tape_reader.proofs.line.value.Tie as tie
 

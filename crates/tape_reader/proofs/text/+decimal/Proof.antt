@@ -7,7 +7,7 @@ use lib.ListN.{length}
 use mathlib.Core.List.{[], _∷_}
 use mathlib.Core.Path.{ap, _∙_}
 use native.Mathlib.Omega.{arith}
-use Rattle.tape_reader.specs.Text.{decimalOf}
+use Rattle.tape_machine.specs.Text.{decimalOf}
 use Rattle.tape_reader.proofs.Texts.{put-then, put-room, first-room, decimal-small, decimal-more}
 use Rattle.tape_reader.proofs.text.+decimal.Lts-decimal as decimal-lts
 use Rattle.tape_reader.proofs.text.+decimal.Tie.{close}

@@ -6,8 +6,8 @@ use lib.ListN.{length}
 use native.Mathlib.Omega.{arith}
 use Rattle.machine.specs.Memory.{mem}
 use Rattle.machine.specs.Step.{state}
-use Rattle.tape_reader.specs.Run.{longest, runOf}
-use Rattle.tape_reader.proofs.Room.{enough-room}
+use Rattle.tape_machine.specs.Run.{longest, runOf}
+use Rattle.tape_machine.proofs.Room.{enough-room}
 use Rattle.tape_reader.proofs.whole.run.Statement.{statement}
 use Rattle.tape_reader.proofs.whole.run.Tie as tie
 

@@ -1,0 +1,18 @@
+-- `read` is the machine's step: from what `cpu_read_u8` ensures.
+use borrow.Author.Needs.{needs}
+use Rattle.tape_calls.proofs.Performing.{cpu-so}
+use Rattle.tape_calls.proofs.calls.read.Statement.{statement}
+use Rattle.tape_calls.proofs.calls.read.Tie as tie
+
+cpu-read-u8-requires : tie.Need-cpu-read-u8-requires
+cpu-read-u8-requires c κs = search needs
+
+of-byte-requires : tie.Need-of-byte-requires
+of-byte-requires c κs = search needs
+
+returns : tie.Need-returns
+returns c =
+    cpu-so _ _ _ _ (c .before .before .cpu-read-u8 .ensures) (c .of-byte .ensures)
+
+pub read-spec : {M : Type 1} → statement M
+read-spec = tie.close (tie.spec cpu-read-u8-requires of-byte-requires returns)

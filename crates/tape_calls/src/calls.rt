@@ -1,0 +1,217 @@
+// A record performed: the calls that its command asks for, and what they answer.
+ghost use mathlib.Core.Path.{_≡_};
+ghost use Rattle.machine.specs.Memory.{before, after};
+ghost use Rattle.machine.specs.Answers.{outcome, doneSaid};
+ghost use Rattle.machine.specs.Calls.{cpuRead, cpuPeek, cpuWrite, serialize};
+ghost use Rattle.machine.specs.Step.{state, cpu, step};
+ghost use Rattle.tape_machine.specs.Told.{toldSaid, handedOf};
+ghost use Rattle.tape_machine.specs.Performs.{performed};
+use crate::told;
+use machine::DoneAnswer;
+use machine::GraphicsController;
+use machine::GraphicsDone;
+use machine::PlaneOffset;
+use machine::Sequencer;
+use machine::SequencerDone;
+use tape_machine::Eight;
+use tape_machine::Handed;
+use tape_machine::Told;
+use tape_records::Command;
+
+// What was answered, and both records as they are left.
+pub struct Performed {
+    pub told: Told,
+    pub gc: GraphicsController,
+    pub seq: Sequencer,
+}
+
+fn graphics_done(done: GraphicsDone, seq: Sequencer) -> Performed
+    ensures { λ r. ⌜ (toldSaid (r .told) ≡ doneSaid (done .answer)) × (r .gc ≡ done .gc) × (r .seq ≡ seq) ⌝ }
+{
+    let answer = done.answer;
+    let gc = done.gc;
+    Performed {
+        told: told::of_done(answer),
+        gc,
+        seq,
+    }
+}
+
+fn sequencer_done(gc: GraphicsController, done: SequencerDone) -> Performed
+    ensures { λ r. ⌜ (toldSaid (r .told) ≡ doneSaid (done .answer)) × (r .gc ≡ gc) × (r .seq ≡ done .seq) ⌝ }
+{
+    let answer = done.answer;
+    let seq = done.seq;
+    Performed {
+        told: told::of_done(answer),
+        gc,
+        seq,
+    }
+}
+
+fn read(
+    gc: GraphicsController,
+    seq: Sequencer,
+    p0: &[u8],
+    p1: &[u8],
+    p2: &[u8],
+    p3: &[u8],
+    picture: &[u8],
+    address: usize,
+    page: bool,
+) -> Performed
+    ensures { λ r. ⌜ outcome (toldSaid (r .told)) (state (r .gc) (r .seq) (before p0 p1 p2 p3 picture)) ≡ step (state gc seq (before p0 p1 p2 p3 picture)) (cpu (cpuRead address page)) ⌝ }
+{
+    let got = graphics_controller::cpu_read_u8(gc, seq, p0, p1, p2, p3, picture, address, page);
+    let answer = got.answer;
+    let next = got.gc;
+    Performed {
+        told: told::of_byte(answer),
+        gc: next,
+        seq,
+    }
+}
+
+fn peek(
+    gc: GraphicsController,
+    seq: Sequencer,
+    p0: &[u8],
+    p1: &[u8],
+    p2: &[u8],
+    p3: &[u8],
+    picture: &[u8],
+    address: usize,
+    page: bool,
+) -> Performed
+    ensures { λ r. ⌜ outcome (toldSaid (r .told)) (state (r .gc) (r .seq) (before p0 p1 p2 p3 picture)) ≡ step (state gc seq (before p0 p1 p2 p3 picture)) (cpu (cpuPeek address page)) ⌝ }
+{
+    let answer = graphics_controller::cpu_peek_u8(gc, seq, p0, p1, p2, p3, picture, address, page);
+    Performed {
+        told: told::of_byte(answer),
+        gc,
+        seq,
+    }
+}
+
+fn write(
+    gc: GraphicsController,
+    seq: Sequencer,
+    p0: &mut [u8],
+    p1: &mut [u8],
+    p2: &mut [u8],
+    p3: &mut [u8],
+    picture: &mut [u8],
+    address: usize,
+    page: bool,
+    byte: u8,
+) -> Performed
+    ensures { λ r. ⌜ outcome (toldSaid (r .told)) (state (r .gc) (r .seq) (after p0 p1 p2 p3 picture)) ≡ step (state gc seq (before p0 p1 p2 p3 picture)) (cpu (cpuWrite address page byte)) ⌝ }
+{
+    let wrote = graphics_controller::cpu_write_u8(
+        gc,
+        seq,
+        p0,
+        p1,
+        p2,
+        p3,
+        picture,
+        address,
+        page,
+        byte,
+    );
+    let answer = wrote.answer;
+    let next = wrote.gc;
+    Performed {
+        told: told::of_store(answer),
+        gc: next,
+        seq,
+    }
+}
+
+// A show's part is copied out, since a record's line outlives the loan.
+fn show(
+    gc: GraphicsController,
+    seq: Sequencer,
+    p0: &[u8],
+    p1: &[u8],
+    p2: &[u8],
+    p3: &[u8],
+    picture: &[u8],
+    offset: PlaneOffset,
+) -> Performed
+    ensures { λ r. ⌜ outcome (toldSaid (r .told)) (state (r .gc) (r .seq) (before p0 p1 p2 p3 picture)) ≡ step (state gc seq (before p0 p1 p2 p3 picture)) (cpu (serialize (offset .0))) ⌝ }
+{
+    let mut number: u8 = 0;
+    let part = graphics_controller::serialize(
+        gc,
+        seq,
+        p0,
+        p1,
+        p2,
+        p3,
+        picture,
+        offset,
+        &mut number,
+    );
+    let handed = pixels(part);
+    Performed {
+        told: Told { number, handed },
+        gc,
+        seq,
+    }
+}
+
+// The pixels of a part: eight, or none.
+fn pixels(part: &[u8]) -> Handed
+    ensures { λ r. ⌜ r ≡ handedOf (now (part .entry)) ⌝ }
+{
+    if part.len() != 8 {
+        return Handed::Nothing;
+    }
+    Handed::Pixels(Eight {
+        a: part[0],
+        b: part[1],
+        c: part[2],
+        d: part[3],
+        e: part[4],
+        f: part[5],
+        g: part[6],
+        h: part[7],
+    })
+}
+
+// A command carried out.
+pub fn perform(
+    gc: GraphicsController,
+    seq: Sequencer,
+    p0: &mut [u8],
+    p1: &mut [u8],
+    p2: &mut [u8],
+    p3: &mut [u8],
+    picture: &mut [u8],
+    command: Command,
+) -> Performed
+    ensures { λ r. ⌜ outcome (toldSaid (r .told)) (state (r .gc) (r .seq) (after p0 p1 p2 p3 picture)) ≡ performed (state gc seq (before p0 p1 p2 p3 picture)) command ⌝ }
+{
+    match command {
+        Command::Reset => Performed {
+            told: told::of_done(DoneAnswer::Done),
+            gc: graphics_controller::reset(gc),
+            seq: sequencer::reset(seq),
+        },
+        Command::GcAddress(byte) => {
+            graphics_done(graphics_controller::write_address(gc, byte), seq)
+        }
+        Command::GcData(byte) => graphics_done(graphics_controller::write_data(gc, byte), seq),
+        Command::SeqAddress(byte) => sequencer_done(gc, sequencer::write_address(seq, byte)),
+        Command::SeqData(byte) => sequencer_done(gc, sequencer::write_data(seq, byte)),
+        Command::Read { address, page } => { read(gc, seq, p0, p1, p2, p3, picture, address, page) }
+        Command::Write {
+            address,
+            page,
+            byte,
+        } => write(gc, seq, p0, p1, p2, p3, picture, address, page, byte),
+        Command::Peek { address, page } => { peek(gc, seq, p0, p1, p2, p3, picture, address, page) }
+        Command::Show(offset) => show(gc, seq, p0, p1, p2, p3, picture, offset),
+    }
+}

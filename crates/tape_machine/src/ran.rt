@@ -1,0 +1,12 @@
+// What a whole run answers.
+use machine::DoneAnswer;
+use machine::GraphicsController;
+use machine::Sequencer;
+
+// Whether the lines had room, how many bytes were written, and both records as they are left.
+pub struct Ran {
+    pub answer: DoneAnswer,
+    pub written: usize,
+    pub gc: GraphicsController,
+    pub seq: Sequencer,
+}
