@@ -1,4 +1,4 @@
--- A line has at most 84 bytes, and a tape no more records than bytes: what `run` judges is enough for `play`.
+-- A line has at most 84 bytes, and a tape no more records than bytes: what tape_reader's `run` judges is enough for its `play`.
 use Prim.Native.Nat.{ℕ, zero, suc, _+_, _-_, _*_, _/_, _%_, _≤_}
 use native.Mathlib.Omega.{arith}
 use mathlib.Core.Bool.{Bool, true, false}

@@ -1,4 +1,5 @@
 // What a record's call answers: its number, and what it hands back.
+
 // The eight pixels of a show.
 pub struct Eight {
     pub a: u8,
