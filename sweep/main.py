@@ -1,6 +1,7 @@
 """The command line of the sweep: which edits, in which order, tried and written down."""
 import argparse
 import re
+import signal
 import sys
 import time
 from collections import Counter
@@ -13,7 +14,6 @@ import tries
 
 RESULTS = Path('target/sweep/results.tsv')
 SEED = 20261115
-SPECS = Path('crates/machine/specs')
 
 
 # ---- the edits
@@ -38,12 +38,33 @@ def source_edits(crate):
     return files
 
 
-def definition_edits():
-    """All edits of machine's definitions, file by file."""
-    paths = [p for p in sorted(SPECS.glob('*.antt')) if p.stem != 'Lib']
+def area_of(crate):
+    """How the ids of a crate's definitions begin."""
+    return 'specs' if crate == 'machine' else f'{crate}.specs'
+
+
+def edits_in(area):
+    """All edits of an area: a crate's code, or its definitions."""
+    if area == 'specs' or area.endswith('.specs'):
+        return definition_edits(area.removesuffix('specs').rstrip('.') or 'machine')
+    return source_edits(area)
+
+
+def trying_of(area):
+    """How an edit of an area is tried."""
+    if area == 'specs' or area.endswith('.specs'):
+        return lambda e: tries.try_definition(e, area.removesuffix('specs').rstrip('.') or 'machine')
+    return lambda e: tries.try_source(e, area)
+
+
+def definition_edits(crate):
+    """All edits of a crate's definitions, file by file."""
+    paths = [p for p in sorted(Path(f'crates/{crate}/specs').glob('*.antt')) if p.stem != 'Lib']
     whole = [p.read_text() for p in paths]
     types = texts.typed(whole)
-    fields = {r: {n if '_' not in n else f'«{n}»': t for n, t in its.items()} for r, its in texts.declared('crates/machine')[0].items()}
+    fields = {}
+    for c in (*tries.below(crate), crate):
+        fields |= {r: {n if '_' not in n else f'«{n}»': t for n, t in its.items()} for r, its in texts.declared(f'crates/{c}')[0].items()}
     for text in whole:
         fields |= texts.record_fields(text)
     files = []
@@ -51,7 +72,7 @@ def definition_edits():
         names, groups = texts.imported(text)
         scope = {n: ' → '.join(t) for n, t in types.items() if n in names or f'\n  {n} ' in text or f'pub {n} :' in text}
         tables = SimpleNamespace(fields=fields, groups=groups, scope=scope)
-        files.append(edits.edits_of(path, text, texts.antt_parts(text, types), edits.antt_rules, tables, f'specs/{path.stem}'))
+        files.append(edits.edits_of(path, text, texts.antt_parts(text, types), edits.antt_rules, tables, f'{area_of(crate)}/{path.stem}'))
     return files
 
 
@@ -102,32 +123,28 @@ def batch(todo, trying, again):
 
 def files_of(options):
     """The edits that the command line names."""
-    return definition_edits() if options.what == 'specs' else source_edits(options.crate)
+    return edits_in(area_of(options.crate) if options.what == 'specs' else options.crate)
 
 
 def sweep(options):
     """A batch of tries."""
     tries.prepare()
-    if options.what == 'specs':
-        ready, trying = tries.unedited('machine'), tries.try_definition
-    else:
-        ready, trying = tries.unedited(options.crate), lambda e: tries.try_source(e, options.crate)
-    if not ready:
+    if not tries.unedited(options.crate):
         sys.exit(2)
-    batch(picked(files_of(options), options), trying, options.again)
+    area = area_of(options.crate) if options.what == 'specs' else options.crate
+    batch(picked(files_of(options), options), trying_of(area), options.again)
 
 
 def one(options):
     """A single try, with what the prover says."""
     area = options.id.split('/')[0]
-    files = definition_edits() if area == 'specs' else source_edits(area)
-    found = [e for f in files for e in f if e.id == options.id]
+    found = [e for f in edits_in(area) for e in f if e.id == options.id]
     if not found:
         sys.exit(f'no edit {options.id}')
     edit = found[0]
     print(f'{edit.path}:{edit.line}: {edit.context}\n{edit.told()}', flush=True)
     tries.prepare()
-    verdict = tries.try_definition(edit) if area == 'specs' else tries.try_source(edit, area)
+    verdict = trying_of(area)(edit)
     errors = [line[:600] for line in verdict.output.split('\n') if re.search(r'error|: not proved$|: no proof', line) and 'was not admitted' not in line]
     print('\n'.join(errors[:20] + [f'{verdict.word} {verdict.where}']))
 
@@ -138,9 +155,8 @@ def retry():
     areas = sorted({i.split('/')[0] for i in ids})
     tries.prepare()
     for area in areas:
-        files = definition_edits() if area == 'specs' else source_edits(area)
-        todo = list(enumerate([e for f in files for e in f if e.id in ids], 1))
-        batch(todo, tries.try_definition if area == 'specs' else lambda e, a=area: tries.try_source(e, a), True)
+        todo = list(enumerate([e for f in edits_in(area) for e in f if e.id in ids], 1))
+        batch(todo, trying_of(area), True)
 
 
 def report():
@@ -157,7 +173,7 @@ def report():
 def arguments():
     """The command line."""
     parser = argparse.ArgumentParser(prog='sweep/run')
-    parser.add_argument('words', nargs='+', help='src CRATE | specs | one ID | retry | list .. | report')
+    parser.add_argument('words', nargs='+', help='src CRATE | specs [CRATE] | one ID | retry | list .. | report')
     parser.add_argument('--from', dest='start', type=int, default=1)
     parser.add_argument('--to', type=int, default=None)
     parser.add_argument('--seed', type=int, default=SEED)
@@ -168,18 +184,21 @@ def arguments():
     words = options.words[1:] if options.list else options.words
     options.what = words[0] if words else ''
     options.crate = options.id = words[1] if len(words) > 1 else ''
+    if options.what == 'specs':
+        options.crate = options.crate or 'machine'
     return options
 
 
 def main():
     """Does what the command line says."""
+    signal.signal(signal.SIGPIPE, signal.SIG_DFL)  # a reader such as head may leave early
     options = arguments()
     if options.what == 'one':
         one(options)
     elif options.what in ('report', 'retry'):
         {'report': report, 'retry': retry}[options.what]()
     elif options.what not in ('src', 'specs') or (options.what == 'src' and not options.crate):
-        sys.exit('sweep/run src CRATE | specs | one ID | retry | list .. | report')
+        sys.exit('sweep/run src CRATE | specs [CRATE] | one ID | retry | list .. | report')
     elif options.list:
         for k, e in picked(files_of(options), options):
             print(f'{k} {e.id} {e.told()} in: {e.context}')

@@ -102,20 +102,20 @@ def refusers(output):
 
 def try_source(edit, crate):
     """An edit of a crate's code, held to that crate's contracts; one of machine's constants to those of the crates above, which use them."""
-    verdict = with_edit(edit, definition_verdict if crate == 'machine' else lambda: read(*dev(crate)))
+    verdict = with_edit(edit, (lambda: definition_verdict(crate)) if crate == 'machine' else lambda: read(*dev(crate)))
     verdict.word = 'refused' if verdict.word == 'contracts only' else verdict.word
     return verdict
 
 
-def try_definition(edit):
-    """An edit of machine's definitions: held to machine's own theorems, then to the contracts of the code, then to the tape's."""
-    return with_edit(edit, definition_verdict)
+def try_definition(edit, crate):
+    """An edit of a crate's definitions: held to its own theorems, then to the contracts of the code, then to the tape's."""
+    return with_edit(edit, lambda: definition_verdict(crate))
 
 
-def definition_verdict():
-    """What machine says; where that survives, the crates above."""
-    verdict = read(*dev('machine'))
-    for top in ('graphics_controller', 'tape_reader'):
+def definition_verdict(crate):
+    """What the crate says; where that survives, those above it."""
+    verdict = read(*dev(crate))
+    for top in (t for t in ('graphics_controller', 'tape_reader') if crate in below(t)):
         if verdict.word != 'survived':
             return verdict
         verdict = read(*whole(top))

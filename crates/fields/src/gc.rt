@@ -1,6 +1,7 @@
-// The fields of the controller's kept bytes: a shift and a mask each, or the byte as it is.
+// The fields of the controller's kept bytes, a shift and a mask each, and its registers by number.
 ghost use mathlib.Core.Path.{_≡_};
-ghost use Rattle.machine.specs.Graphics.{rotateCount, logicFunction, writeMode, readMode, oddEven, shiftMode, chained, memoryMap};
+ghost use Rattle.machine.specs.Graphics.{rotateCount, logicFunction, writeMode, readMode, oddEven, shiftMode, chained, memoryMap, selects, registerNumber};
+use machine::GraphicsRegister;
 use machine::GraphicsRegisters;
 use machine::LogicFunction;
 use machine::MemoryMap;
@@ -94,5 +95,40 @@ pub fn memory_map(registers: GraphicsRegisters) -> MemoryMap
         1 => MemoryMap::A0000_64K,
         2 => MemoryMap::B0000_32K,
         _ => MemoryMap::B8000_32K,
+    }
+}
+
+// 0 to 8 select in the order of GraphicsRegister; any other number keeps the earlier selection.
+pub fn selected(number: u8, earlier: GraphicsRegister) -> GraphicsRegister
+    ensures { λ r. ⌜ r ≡ selects number earlier ⌝ }
+{
+    match number {
+        0 => GraphicsRegister::SetReset,
+        1 => GraphicsRegister::EnableSetReset,
+        2 => GraphicsRegister::ColorCompare,
+        3 => GraphicsRegister::DataRotate,
+        4 => GraphicsRegister::ReadMapSelect,
+        5 => GraphicsRegister::Mode,
+        6 => GraphicsRegister::Miscellaneous,
+        7 => GraphicsRegister::ColorDontCare,
+        8 => GraphicsRegister::BitMask,
+        _ => earlier,
+    }
+}
+
+// A register's number, by which it is selected.
+pub fn register_number(register: GraphicsRegister) -> u8
+    ensures { λ r. ⌜ r ≡ registerNumber register ⌝ }
+{
+    match register {
+        GraphicsRegister::SetReset => 0,
+        GraphicsRegister::EnableSetReset => 1,
+        GraphicsRegister::ColorCompare => 2,
+        GraphicsRegister::DataRotate => 3,
+        GraphicsRegister::ReadMapSelect => 4,
+        GraphicsRegister::Mode => 5,
+        GraphicsRegister::Miscellaneous => 6,
+        GraphicsRegister::ColorDontCare => 7,
+        GraphicsRegister::BitMask => 8,
     }
 }

@@ -1,7 +1,7 @@
 // The controller's ports and the fields that are asked for: each judges the record, and then reads or writes its registers.
 ghost use mathlib.Core.Path.{_≡_};
 ghost use Rattle.machine.specs.Answers.{said, one, outcome, byteSaid, doneSaid, flagSaid, mapSaid, oddEvenSaid, shiftSaid};
-ghost use Rattle.machine.specs.Graphics.{gcOf, selects, withAddress, withData, dataOf};
+ghost use Rattle.machine.specs.Graphics.{gcOf, withAddress, withData, dataOf};
 ghost use Rattle.machine.specs.Calls.{isChain4, gcReset, gcChain, gcChain4, gcMemoryMap, gcOddEven, gcShiftMode, gcReadAddress, gcReadData, gcWriteAddress, gcWriteData};
 ghost use Rattle.machine.specs.Step.{graphicsStep};
 use judges::fits_gc;
@@ -96,24 +96,6 @@ pub fn read_address(gc: GraphicsController) -> ByteAnswer
     ByteAnswer::Done(registers.register_select_byte)
 }
 
-// 0 to 8 select in the order of GraphicsRegister; any other number keeps the earlier selection.
-fn selected(number: u8, earlier: GraphicsRegister) -> GraphicsRegister
-    ensures { λ r. ⌜ r ≡ selects number earlier ⌝ }
-{
-    match number {
-        0 => GraphicsRegister::SetReset,
-        1 => GraphicsRegister::EnableSetReset,
-        2 => GraphicsRegister::ColorCompare,
-        3 => GraphicsRegister::DataRotate,
-        4 => GraphicsRegister::ReadMapSelect,
-        5 => GraphicsRegister::Mode,
-        6 => GraphicsRegister::Miscellaneous,
-        7 => GraphicsRegister::ColorDontCare,
-        8 => GraphicsRegister::BitMask,
-        _ => earlier,
-    }
-}
-
 fn with_address(registers: GraphicsRegisters, byte: u8) -> GraphicsRegisters
     ensures { λ r. ⌜ r ≡ withAddress byte registers ⌝ }
 {
@@ -121,7 +103,7 @@ fn with_address(registers: GraphicsRegisters, byte: u8) -> GraphicsRegisters
     let earlier = registers.register_selected;
     GraphicsRegisters {
         register_select_byte: number,
-        register_selected: selected(number, earlier),
+        register_selected: fields::gc::selected(number, earlier),
         set_reset: registers.set_reset,
         enable_set_reset: registers.enable_set_reset,
         color_compare: registers.color_compare,

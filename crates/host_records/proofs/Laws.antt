@@ -1,5 +1,5 @@
 -- What the records' proofs cite: registers by number and back, records of known number as they are, eight entries as a list.
-use Prim.Native.Nat.{ℕ, zero, suc, _<_, _≤_}
+use Prim.Native.Nat.{ℕ, zero, suc, _≤_}
 use native.Mathlib.Omega.{arith}
 use mathlib.Core.Path.{_≡_, refl, sym}
 use mathlib.Core.Bool.{true}
@@ -15,24 +15,6 @@ use Rattle.host_records.specs.declared.record.SequencerRecord.{Sequencer
 use Rattle.host_records.specs.Records.{knownGc, knownSeq, known, controllerOf, recordOf, sequencerOf, sequencerRecordOf}
 
 -- ---- registers by number
-
--- the last register stands for every number from its own on
-pub selects-last : (n : ℕ) → 7 < n → BitMask ≡ selects n BitMask
-unfolding selects
-selects-last zero h = absurd (omega arith)
-selects-last (suc zero) h = absurd (omega arith)
-selects-last (suc (suc zero)) h = absurd (omega arith)
-selects-last (suc (suc (suc zero))) h = absurd (omega arith)
-selects-last (suc (suc (suc (suc zero)))) h = absurd (omega arith)
-selects-last (suc (suc (suc (suc (suc zero))))) h = absurd (omega arith)
-selects-last (suc (suc (suc (suc (suc (suc zero)))))) h = absurd (omega arith)
-selects-last (suc (suc (suc (suc (suc (suc (suc zero))))))) h = absurd (omega arith)
-selects-last (suc (suc (suc (suc (suc (suc (suc (suc zero)))))))) h = refl
-selects-last (suc (suc (suc (suc (suc (suc (suc (suc (suc n))))))))) h = refl
-
--- the number is none of those of the first four arms
-pub four : (n : ℕ) → (((Unit {0} × (n ≡ 0 → ⊥)) × (n ≡ 1 → ⊥)) × (n ≡ 2 → ⊥)) × (n ≡ 3 → ⊥) → 3 < n
-four n h = omega (arith, h .1, h .0 .1, h .0 .0 .1, h .0 .0 .0 .1)
 
 -- a register's number, read as a register, is its number again
 number-back : (n : ℕ) → n ≤ 8 → registerNumber (selects n BitMask) ≡ n

@@ -2,15 +2,12 @@
 ghost use mathlib.Core.Path.{_≡_};
 ghost use mathlib.Core.Bool.{_&&_};
 ghost use lib.Dec.{leb};
-ghost use Rattle.machine.specs.Graphics.{selects, registerNumber};
-ghost use Rattle.machine.specs.Sequencer.{selectsSeq, seqNumber};
 ghost use Rattle.host_records.specs.Records.{statsOf, statsRecordOf, controllerOf, recordOf, sequencerOf, sequencerRecordOf, knownGc as knowsGc, knownSeq as knowsSeq, known as knows};
 use machine::GraphicsController;
 use machine::GraphicsControllerStats;
 use machine::GraphicsRegister;
 use machine::GraphicsRegisters;
 use machine::Sequencer;
-use machine::SequencerRegister;
 
 // The counters.
 #[repr(C)]
@@ -76,64 +73,6 @@ pub fn known(gc: ControllerRecord, seq: SequencerRecord) -> bool
     known_sequencer(seq)
 }
 
-fn graphics_register(number: u8) -> GraphicsRegister
-    ensures { λ r. ⌜ r ≡ selects number GraphicsRegister.BitMask ⌝ }
-{
-    match number {
-        0 => GraphicsRegister::SetReset,
-        1 => GraphicsRegister::EnableSetReset,
-        2 => GraphicsRegister::ColorCompare,
-        3 => GraphicsRegister::DataRotate,
-        4 => GraphicsRegister::ReadMapSelect,
-        5 => GraphicsRegister::Mode,
-        6 => GraphicsRegister::Miscellaneous,
-        7 => GraphicsRegister::ColorDontCare,
-        _ => GraphicsRegister::BitMask,
-    }
-}
-
-fn graphics_number(register: GraphicsRegister) -> u8
-    ensures { λ r. ⌜ r ≡ registerNumber register ⌝ }
-{
-    match register {
-        GraphicsRegister::SetReset => 0,
-        GraphicsRegister::EnableSetReset => 1,
-        GraphicsRegister::ColorCompare => 2,
-        GraphicsRegister::DataRotate => 3,
-        GraphicsRegister::ReadMapSelect => 4,
-        GraphicsRegister::Mode => 5,
-        GraphicsRegister::Miscellaneous => 6,
-        GraphicsRegister::ColorDontCare => 7,
-        GraphicsRegister::BitMask => 8,
-    }
-}
-
-fn sequencer_register(number: u8) -> SequencerRegister
-    ensures { λ r. ⌜ r ≡ selectsSeq number ⌝ }
-{
-    match number {
-        0 => SequencerRegister::Reset,
-        1 => SequencerRegister::ClockingMode,
-        2 => SequencerRegister::MapMask,
-        3 => SequencerRegister::CharacterMapSelect,
-        4 => SequencerRegister::MemoryMode,
-        _ => SequencerRegister::Invalid,
-    }
-}
-
-fn sequencer_number(register: SequencerRegister) -> u8
-    ensures { λ r. ⌜ r ≡ seqNumber register ⌝ }
-{
-    match register {
-        SequencerRegister::Reset => 0,
-        SequencerRegister::ClockingMode => 1,
-        SequencerRegister::MapMask => 2,
-        SequencerRegister::CharacterMapSelect => 3,
-        SequencerRegister::MemoryMode => 4,
-        SequencerRegister::Invalid => 5,
-    }
-}
-
 fn to_stats(stats: StatsRecord) -> GraphicsControllerStats
     ensures { λ r. ⌜ r ≡ statsOf stats ⌝ }
 {
@@ -169,7 +108,10 @@ pub fn to_controller(gc: ControllerRecord) -> GraphicsController
     GraphicsController {
         registers: GraphicsRegisters {
             register_select_byte: gc.register_select_byte,
-            register_selected: graphics_register(gc.register_selected),
+            register_selected: fields::gc::selected(
+                gc.register_selected,
+                GraphicsRegister::BitMask,
+            ),
             set_reset: gc.set_reset,
             enable_set_reset: gc.enable_set_reset,
             color_compare: gc.color_compare,
@@ -196,7 +138,7 @@ pub fn of_controller(gc: GraphicsController) -> ControllerRecord
     ControllerRecord {
         stats: of_stats(stats),
         register_select_byte: registers.register_select_byte,
-        register_selected: graphics_number(selected),
+        register_selected: fields::gc::register_number(selected),
         set_reset: registers.set_reset,
         enable_set_reset: registers.enable_set_reset,
         color_compare: registers.color_compare,
@@ -215,7 +157,7 @@ pub fn to_sequencer(seq: SequencerRecord) -> Sequencer
 {
     Sequencer {
         address_byte: seq.address_byte,
-        register_selected: sequencer_register(seq.register_selected),
+        register_selected: fields::seq::selected(seq.register_selected),
         reset: seq.reset,
         clocking_mode: seq.clocking_mode,
         map_mask: seq.map_mask,
@@ -233,7 +175,7 @@ pub fn of_sequencer(seq: Sequencer) -> SequencerRecord
     let selected = seq.register_selected;
     SequencerRecord {
         address_byte: seq.address_byte,
-        register_selected: sequencer_number(selected),
+        register_selected: fields::seq::register_number(selected),
         reset: seq.reset,
         clocking_mode: seq.clocking_mode,
         map_mask: seq.map_mask,

@@ -1,7 +1,7 @@
 // The sequencer's ports, its clock and the pending mark. Each call judges the whole record first, `reset` excepted.
 ghost use mathlib.Core.Path.{_≡_};
 ghost use Rattle.machine.specs.Answers.{said, one, outcome, byteSaid, doneSaid, flagSaid, clockSaid};
-ghost use Rattle.machine.specs.Sequencer.{selectsSeq, seqDataOf, withSeqData, divisorOf, clockOf, withMark};
+ghost use Rattle.machine.specs.Sequencer.{seqDataOf, withSeqData, divisorOf, clockOf, withMark};
 ghost use Rattle.machine.specs.Calls.{seqReset, seqClock, seqSetClockChangePending, seqPollClockChange, seqReadAddress, seqReadData, seqWriteAddress, seqWriteData};
 ghost use Rattle.machine.specs.Step.{sequencerStep};
 use judges::fits_seq;
@@ -74,20 +74,6 @@ pub fn read_address(seq: Sequencer) -> ByteAnswer
     ByteAnswer::Done(seq.address_byte)
 }
 
-// The register that an address byte selects.
-fn selected(byte: u8) -> SequencerRegister
-    ensures { λ r. ⌜ r ≡ selectsSeq byte ⌝ }
-{
-    match byte {
-        0x00 => SequencerRegister::Reset,
-        0x01 => SequencerRegister::ClockingMode,
-        0x02 => SequencerRegister::MapMask,
-        0x03 => SequencerRegister::CharacterMapSelect,
-        0x04 => SequencerRegister::MemoryMode,
-        _ => SequencerRegister::Invalid,
-    }
-}
-
 pub fn write_address(seq: Sequencer, byte: u8) -> SequencerDone
     ensures { λ r. ⌜ outcome (doneSaid (r .answer)) (r .seq) ≡ sequencerStep seq (seqWriteAddress byte) ⌝ }
 {
@@ -99,7 +85,7 @@ pub fn write_address(seq: Sequencer, byte: u8) -> SequencerDone
     }
     let next = Sequencer {
         address_byte: byte,
-        register_selected: selected(byte),
+        register_selected: fields::seq::selected(byte),
         reset: seq.reset,
         clocking_mode: seq.clocking_mode,
         map_mask: seq.map_mask,

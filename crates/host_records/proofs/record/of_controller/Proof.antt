@@ -6,11 +6,11 @@ use Rattle.host_records.proofs.record.of_controller.Tie as tie
 of-stats-requires : tie.Need-of-stats-requires
 of-stats-requires c κs = search needs
 
-graphics-number-requires : tie.Need-graphics-number-requires
-graphics-number-requires c κs = search needs
+register-number-requires : tie.Need-register-number-requires
+register-number-requires c κs = search needs
 
 returns : tie.Need-returns
-returns c = rw (c .graphics-number .ensures, c .before .of-stats .ensures)
+returns c = rw (c .register-number .ensures, c .before .of-stats .ensures)
 
 pub of-controller-spec : {M : Type 1} → statement M
-of-controller-spec = tie.close (tie.spec of-stats-requires graphics-number-requires returns)
+of-controller-spec = tie.close (tie.spec of-stats-requires register-number-requires returns)

@@ -3,11 +3,11 @@ use borrow.Author.Needs.{needs}
 use Rattle.host_records.proofs.record.of_sequencer.Statement.{statement}
 use Rattle.host_records.proofs.record.of_sequencer.Tie as tie
 
-sequencer-number-requires : tie.Need-sequencer-number-requires
-sequencer-number-requires c κs = search needs
+register-number-requires : tie.Need-register-number-requires
+register-number-requires c κs = search needs
 
 returns : tie.Need-returns
-returns c = rw (c .sequencer-number .ensures)
+returns c = rw (c .register-number .ensures)
 
 pub of-sequencer-spec : {M : Type 1} → statement M
-of-sequencer-spec = tie.close (tie.spec sequencer-number-requires returns)
+of-sequencer-spec = tie.close (tie.spec register-number-requires returns)

@@ -3,14 +3,14 @@ use borrow.Author.Needs.{needs}
 use Rattle.host_records.proofs.record.to_controller.Statement.{statement}
 use Rattle.host_records.proofs.record.to_controller.Tie as tie
 
-graphics-register-requires : tie.Need-graphics-register-requires
-graphics-register-requires c κs = search needs
+selected-requires : tie.Need-selected-requires
+selected-requires c κs = search needs
 
 to-stats-requires : tie.Need-to-stats-requires
 to-stats-requires c κs = search needs
 
 returns : tie.Need-returns
-returns c = rw (c .before .graphics-register .ensures, c .to-stats .ensures)
+returns c = rw (c .before .selected .ensures, c .to-stats .ensures)
 
 pub to-controller-spec : {M : Type 1} → statement M
-to-controller-spec = tie.close (tie.spec graphics-register-requires to-stats-requires returns)
+to-controller-spec = tie.close (tie.spec selected-requires to-stats-requires returns)

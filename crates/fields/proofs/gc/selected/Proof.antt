@@ -4,8 +4,8 @@ use native.Mathlib.Omega.{arith}
 use mathlib.Core.Path.{_≡_, sym}
 use lib.ListN.{List·getD-eq-default}
 use Rattle.machine.specs.Graphics.{registers, selects}
-use Rattle.graphics_registers.proofs.registers.selected.Statement.{statement}
-use Rattle.graphics_registers.proofs.registers.selected.Tie as tie
+use Rattle.fields.proofs.gc.selected.Statement.{statement}
+use Rattle.fields.proofs.gc.selected.Tie as tie
 
 returns : tie.Need-returns
 unfolding selects

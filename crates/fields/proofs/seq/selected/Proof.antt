@@ -1,9 +1,9 @@
--- `sequencer_register` gives the register of a number, from the arm that was taken.
+-- `selected` names the register of each address byte.
 use native.Mathlib.Omega.{arith}
 use Rattle.machine.specs.Sequencer.{selectsSeq}
 use Rattle.fields.proofs.Selects.{selects-invalid}
-use Rattle.host_records.proofs.record.sequencer_register.Statement.{statement}
-use Rattle.host_records.proofs.record.sequencer_register.Tie as tie
+use Rattle.fields.proofs.seq.selected.Statement.{statement}
+use Rattle.fields.proofs.seq.selected.Tie as tie
 
 returns : tie.Need-returns
 unfolding selectsSeq
@@ -28,13 +28,5 @@ returns-5 c = rw (c .match .keys5)
 returns-6 : tie.Need-returns-6
 returns-6 c = selects-invalid _ (omega (arith, c .match .rest))
 
-pub sequencer-register-spec : {M : Type 1} → statement M
-sequencer-register-spec =
-    tie.close
-    (tie.spec
-    returns
-    returns-2
-    returns-3
-    returns-4
-    returns-5
-    returns-6)
+pub selected-spec : {M : Type 1} → statement M
+selected-spec = tie.close (tie.spec returns returns-2 returns-3 returns-4 returns-5 returns-6)
