@@ -1,6 +1,6 @@
 -- The laws of `bit` and `ofBits`, over any width: what a proof about shifts, masks and bytes cites, so that none looks inside the two.
 use Prim.Native.Nat.{ℕ, zero, suc, _+_, _*_, _/_, _%_, _^_, _≤_, _<_, zero-le, suc-le-suc}
-use native.Mathlib.Nat.{pow-suc, div-div-eq-div-mul, mul-comm, mul-assoc, div-eq-of-lt, lt-of-lt-of-le, le-of-suc-le-suc, not-suc-le-zero}
+use native.Mathlib.Nat.{pow-suc, div-div-eq-div-mul, mul-comm, div-eq-of-lt, lt-of-lt-of-le, le-of-suc-le-suc, not-suc-le-zero}
 use native.Mathlib.Numerals.{add-one}
 use native.Mathlib.Omega.{arith}
 use mathlib.Core.Path.{_≡_, refl, sym, ap, ap₂, _∙_}
@@ -77,15 +77,6 @@ is-of n {x} h e = sym (of-bit n x h) ∙ of-ext n e
 
 pub bits-ext : (n : ℕ) {x y : ℕ} → x < 2 ^ n → y < 2 ^ n → ((i : ℕ) → i < n → bit i x ≡ bit i y) → x ≡ y
 bits-ext n {x} {y} h k e = is-of n h e ∙ of-bit n y k
-
--- one bit more, on top: what a loop over bits has after its next turn
-top : (n : ℕ) (f : ℕ → ℕ) → ofBits (suc n) f ≡ ofBits n f + f n * 2 ^ n
-unfolding ofBits
-top zero f = omega arith
-top (suc n) f = omega (arith, top n (λ i. f (suc i)), ap (λ (w : ℕ). f (suc n) * w) (pow-suc 2 n), mul-assoc (f (suc n)) (2 ^ n) 2)
-
-pub of-more : (n : ℕ) (f : ℕ → ℕ) → ofBits (n + 1) f ≡ ofBits n f + f n * 2 ^ n
-of-more n f = rw add-one (top n f)
 
 -- numbers of any width are equal where all their bits are
 lt-pow : (n : ℕ) → n < 2 ^ n

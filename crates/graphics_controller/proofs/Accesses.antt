@@ -12,7 +12,6 @@ use Rattle.machine.specs.declared.answer.Refusal.{Refusal}
 use Rattle.machine.specs.declared.answer.MappedAnswer.{MappedAnswer}
 use Rattle.machine.specs.declared.answer.MappedAnswer.the-variants.{Done as MappedDone, Refused as MappedRefused}
 use Rattle.machine.specs.declared.place.PlaneOffset.{PlaneOffset}
-use Rattle.machine.specs.declared.graphics.GraphicsControllerStats.{GraphicsControllerStats}
 use Rattle.machine.specs.declared.graphics.WriteMode.{WriteMode}
 use Rattle.machine.specs.declared.graphics.WriteMode.the-variants.{Mode0, Mode1, Mode2, Invalid}
 use Rattle.machine.specs.declared.graphics.GraphicsRegisters.{GraphicsRegisters}

@@ -13,7 +13,7 @@ use Rattle.machine.specs.declared.answer.CpuByte.{CpuByte}
 use Rattle.machine.specs.declared.answer.CpuStore.{CpuStore}
 use Rattle.machine.specs.declared.graphics.GraphicsController.{GraphicsController}
 use Rattle.machine.specs.Memory.{Memory, lent}
-use Rattle.machine.specs.Answers.{one, part, Said, Outcome, outcome, byteSaid, storeSaid}
+use Rattle.machine.specs.Answers.{Said, Outcome, outcome, byteSaid, storeSaid}
 use Rattle.machine.specs.Step.{Device, device}
 use Rattle.machine.proofs.Injective.{answer-of, next-of, pixels-of, byte-injective, store-injective}
 use Rattle.graphics_controller.proofs.access.cpu_read_u8.Reads as cpu-read-u8

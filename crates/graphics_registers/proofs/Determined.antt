@@ -13,8 +13,7 @@ use Rattle.machine.specs.declared.answer.OddEvenAnswer.{OddEvenAnswer}
 use Rattle.machine.specs.declared.answer.ShiftAnswer.{ShiftAnswer}
 use Rattle.machine.specs.declared.answer.GraphicsDone.{GraphicsDone}
 use Rattle.machine.specs.declared.graphics.GraphicsController.{GraphicsController}
-use Rattle.machine.specs.Memory.{lent}
-use Rattle.machine.specs.Answers.{one, part, Outcome, outcome, doneSaid}
+use Rattle.machine.specs.Answers.{Outcome, outcome, doneSaid}
 use Rattle.machine.proofs.Injective.{answer-of, next-of, byte-injective, done-injective, flag-injective, map-injective, odd-even-injective, shift-injective, mapped-injective}
 use Rattle.graphics_registers.proofs.registers.reset.Reads as reset
 use Rattle.graphics_registers.proofs.registers.reset.Kinds as reset-kinds

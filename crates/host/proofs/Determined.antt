@@ -9,12 +9,12 @@ use prog.Wp.{Heap}
 use ghost.Atoms.{Atoms}
 use contract.Lifetimes.{Lfts}
 use contract.Monad.{Fun, fact}
-use denote.Ref.{RefT, now}
+use denote.Ref.{now}
 use denote.Triple.Entry.{Args}
 use denote.Triple.Clauses.{AtExit}
 use borrow.Fn.Kinds.{Dens, endedOf}
 use Rattle.machine.specs.Memory.{Memory, lent}
-use Rattle.machine.specs.Answers.{one, Said, Outcome, outcome}
+use Rattle.machine.specs.Answers.{one, Outcome, outcome}
 use Rattle.machine.specs.Calls.{gcReset, gcWriteAddress, gcWriteData, cpuRead, cpuWrite}
 use Rattle.machine.specs.Step.{lifted, graphicsStep}
 use Rattle.host_records.specs.declared.record.ControllerRecord.{ControllerRecord}

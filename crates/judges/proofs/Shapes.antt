@@ -7,7 +7,6 @@ use lib.Dec.{eqb, ltb, leb}
 use borrow.Author.Tests.{lt-ltb, le-ltb, le-leb, lt-leb, eq-eqb, ne-eqb, eqb-true}
 use Rattle.machine.specs.declared.shape.Shape.{Shape}
 use Rattle.machine.specs.Memory.{size, sound}
-use Rattle.machine.specs.Answers.{one}
 use Rattle.machine.specs.Calls.{placeNumber}
 use Rattle.machine.proofs.Laws.{both}
 

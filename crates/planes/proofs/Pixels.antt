@@ -9,8 +9,7 @@ use lib.ListN.{getD, set}
 use Rattle.bits.specs.Bit.{bit, ofBits}
 use Rattle.bits.proofs.Laws.{bit-lt, of-lt}
 use Rattle.machine.specs.Memory.{Memory, mem}
-use Rattle.machine.specs.Answers.{one}
-use Rattle.machine.specs.Deeds.{byte, pixelOf, remade}
+use Rattle.machine.specs.Deeds.{pixelOf, remade}
 
 -- ---- pixels
 

@@ -8,7 +8,6 @@ use lib.Dec.{eqb}
 use Rattle.bits.specs.Bit.{bit, byteOf}
 use Rattle.bits.proofs.Laws.{is-of}
 use Rattle.machine.specs.Memory.{Memory}
-use Rattle.machine.specs.Answers.{one}
 use Rattle.machine.specs.Deeds.{byte, remade, storedByte, laid, memoryAfter}
 use Rattle.machine.specs.Calls.{storeOne}
 use Rattle.machine.proofs.Laws.{stored-one}

@@ -10,7 +10,7 @@ use borrow.Fn.Kinds.{Dens, endedOf}
 use Rattle.machine.specs.declared.answer.ByteAnswer.{ByteAnswer}
 use Rattle.machine.specs.declared.answer.StoreAnswer.{StoreAnswer}
 use Rattle.machine.specs.Memory.{Memory, lent}
-use Rattle.machine.specs.Answers.{one, two, part, Said}
+use Rattle.machine.specs.Answers.{Said}
 use Rattle.machine.proofs.Injective.{answer-of, next-of, pixels-of, byte-injective, pixel-injective, store-injective}
 use Rattle.sequencer.proofs.direct.cpu_read_u8.Reads as cpu-read-u8
 use Rattle.sequencer.proofs.direct.cpu_read_u8.Kinds as cpu-read-u8-kinds

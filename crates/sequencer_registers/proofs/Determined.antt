@@ -10,7 +10,7 @@ use Rattle.machine.specs.declared.answer.FlagAnswer.{FlagAnswer}
 use Rattle.machine.specs.declared.answer.SequencerDone.{SequencerDone}
 use Rattle.machine.specs.declared.answer.SequencerFlag.{SequencerFlag}
 use Rattle.machine.specs.declared.sequencer.Sequencer.{Sequencer}
-use Rattle.machine.specs.Answers.{one, two, part, Outcome, outcome, doneSaid, flagSaid}
+use Rattle.machine.specs.Answers.{Outcome, outcome, doneSaid, flagSaid}
 use Rattle.machine.proofs.Injective.{answer-of, next-of, byte-injective, done-injective, flag-injective, clock-injective}
 use Rattle.sequencer_registers.proofs.registers.reset.Reads as reset
 use Rattle.sequencer_registers.proofs.registers.reset.Kinds as reset-kinds

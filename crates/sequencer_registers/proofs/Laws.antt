@@ -10,7 +10,7 @@ use lib.Pow.{pow-pos}
 use mir.Val.{boolByte}
 use borrow.Author.Tests.{leb-true}
 use Rattle.bits.specs.Bit.{bit, ofBits, isOne, bitOf, pick}
-use Rattle.bits.proofs.Laws.{bit-lt, bit-zero, bit-mod, bit-of, of-lt, is-of}
+use Rattle.bits.proofs.Laws.{bit-lt, bit-zero, bit-mod, bit-of, is-of}
 use Rattle.bits.proofs.Bitwise.{bit-and, shr-and-one, and-one-shl}
 use Rattle.bits.proofs.Decide.{agree1, agree2}
 use Rattle.machine.specs.declared.sequencer.Sequencer.{Sequencer}
@@ -115,10 +115,6 @@ module _ (s : Sequencer) (o : ℕ) (a0 : Bool) where
       (λ p l. bit-and p _ _ ∙ bits-both _ _ (bit-lt p _) (bit-lt p _)))
 
   -- what a caller knows of that number
-  pub mask-lt : maskOf s o a0 < 16
-  unfolding maskOf
-  mask-lt = of-lt 4 _ (λ p. test-lt (inMask s o a0 p))
-
   pub mask-bit : (p : ℕ) → p ≤ 3 → bit p (maskOf s o a0) ≡ bitOf (inMask s o a0 p)
   unfolding maskOf
   mask-bit p h = bit-of 4 (λ p. bitOf (inMask s o a0 p)) (λ p. test-lt (inMask s o a0 p)) p (omega arith)

@@ -1,8 +1,8 @@
 -- Any two outcomes that a call's contract permits for one input coincide: the answer itself, and each slice that the call may change. `Post` is each contract's own reading.
 -- A `&` slice is at exit what it was; of a part handed back the pixels are fixed, and that it is the caller's own picture follows from its lifetime.
 use Prim.Native.Nat.{ℕ}
-use mathlib.Core.Path.{_≡_, ap, sym, _∙_}
-use mathlib.Core.List.{List, []}
+use mathlib.Core.Path.{_≡_, ap}
+use mathlib.Core.List.{List}
 use contract.Lifetimes.{Lfts}
 use denote.Ref.{RefT, now}
 use denote.Triple.Clauses.{AtExit}
@@ -11,7 +11,7 @@ use Rattle.machine.specs.declared.answer.ByteAnswer.{ByteAnswer}
 use Rattle.machine.specs.declared.answer.StoreAnswer.{StoreAnswer}
 use Rattle.machine.specs.declared.answer.DoneAnswer.{DoneAnswer}
 use Rattle.machine.specs.Memory.{Memory, lent}
-use Rattle.machine.specs.Answers.{Value, one, two, pixel, part, Said, Outcome, outcome}
+use Rattle.machine.specs.Answers.{Said}
 use Rattle.machine.proofs.Injective.{answer-of, next-of, pixels-of, byte-injective, pixel-injective, store-injective, done-injective}
 use Rattle.vram.proofs.read_glyph.Reads as read-glyph
 use Rattle.vram.proofs.read_glyph.Kinds as read-glyph-kinds

@@ -1,6 +1,6 @@
 -- What the code's proofs cite: a call by what its judge answered, and a store of any kind as the machine's.
 use Prim.Native.Nat.{ℕ, _<_, _≤_}
-use mathlib.Core.Path.{_≡_, refl, sym, ap, _∙_}
+use mathlib.Core.Path.{_≡_, refl, sym, _∙_}
 use lib.Dec.{eqb}
 use lib.ListN.{length}
 use Rattle.machine.specs.Memory.{Memory, shape, Shaped}

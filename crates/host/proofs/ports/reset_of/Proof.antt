@@ -1,5 +1,5 @@
 -- `reset_of` restores the start: from `reset`.
-use mathlib.Core.Path.{sym, ap, _∙_}
+use mathlib.Core.Path.{ap}
 use Rattle.machine.specs.declared.graphics.GraphicsController.{GraphicsController}
 use Rattle.machine.specs.Answers.{Outcome, outcome}
 use Rattle.host_records.specs.Records.{recordOf}

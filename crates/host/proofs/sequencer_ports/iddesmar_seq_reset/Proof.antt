@@ -1,5 +1,5 @@
 -- The start is restored: from `reset`.
-use mathlib.Core.Path.{sym, ap, _∙_}
+use mathlib.Core.Path.{ap}
 use Rattle.machine.specs.declared.sequencer.Sequencer.{Sequencer}
 use Rattle.machine.specs.Answers.{Outcome, outcome}
 use Rattle.host_records.specs.Records.{sequencerRecordOf}

@@ -1,5 +1,4 @@
 -- `of_part` copies eight pixels, or gives zeros: from the test on the length.
-use mathlib.Core.Path.{sym, _∙_}
 use borrow.Author.Tests.{eq-eqb, ne-eqb}
 use Rattle.host_records.proofs.Laws.{eight}
 use borrow.Author.Needs.{needs}

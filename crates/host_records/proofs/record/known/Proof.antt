@@ -1,5 +1,5 @@
 -- `known` asks both.
-use mathlib.Core.Path.{sym, ap, _∙_}
+use mathlib.Core.Path.{sym, _∙_}
 use borrow.Author.Tests.{not-true, not-false}
 use borrow.Author.Needs.{needs}
 use Rattle.host_records.proofs.record.known.Statement.{statement}
