@@ -1,8 +1,10 @@
 // The processor's accesses, one after another on two bytes a plane: each mode of write and read, the masks, and the counters.
 use crate::print;
 use crate::records;
+use machine::ByteAnswer;
 use machine::GraphicsController;
 use machine::Sequencer;
+use machine::StoreAnswer;
 
 pub fn tell() {
     modes();
@@ -35,16 +37,20 @@ pub fn write(
         false,
         byte,
     );
+    let answer = wrote.answer;
+    written(address, byte, answer);
+    print::record(wrote.gc);
+    print::memory(p0, p1, p2, p3, picture);
+    wrote.gc
+}
+
+fn written(address: usize, byte: u8, answer: StoreAnswer) {
     print::text(b"write");
     print::address(address);
     print::one_byte(byte);
     print::text(b":");
-    let answer = wrote.answer;
     print::store_answer(answer);
     print::text(b"\n");
-    print::record(wrote.gc);
-    print::memory(p0, p1, p2, p3, picture);
-    wrote.gc
 }
 
 pub fn read(
@@ -59,16 +65,20 @@ pub fn read(
 ) -> GraphicsController {
     let got = graphics_controller::cpu_read_u8(gc, seq, p0, p1, p2, p3, picture, address, false);
     let peeked = graphics_controller::cpu_peek_u8(gc, seq, p0, p1, p2, p3, picture, address, false);
+    let answer = got.answer;
+    given(address, answer, peeked);
+    print::record(got.gc);
+    got.gc
+}
+
+fn given(address: usize, answer: ByteAnswer, peeked: ByteAnswer) {
     print::text(b"read");
     print::address(address);
     print::text(b":");
-    let answer = got.answer;
     print::byte_answer(answer);
     print::text(b", peek");
     print::byte_answer(peeked);
     print::text(b"\n");
-    print::record(got.gc);
-    got.gc
 }
 
 // Two bytes a plane, all zero.
@@ -100,7 +110,6 @@ fn mode_2(
     read(gc, seq, p0, p1, p2, p3, picture, 0xA0000)
 }
 
-// Rotated by 1, Xor, Bit Mask 3C, plane 1 by its Set/Reset bit.
 fn mode_0(
     gc: GraphicsController,
     p0: &mut [u8],
@@ -110,13 +119,17 @@ fn mode_0(
     picture: &mut [u8],
 ) -> GraphicsController {
     print::text(b"mode 0, rotate 1, Xor, Bit Mask 3C, Enable 2, Set/Reset 2\n");
+    let seq = records::sequential();
+    write(rotated(gc), seq, p0, p1, p2, p3, picture, 0xA0001, 0x2D)
+}
+
+// Rotated by 1, Xor, Bit Mask 3C, plane 1 by its Set/Reset bit.
+fn rotated(gc: GraphicsController) -> GraphicsController {
     let gc = records::with(gc, 5, 0);
     let gc = records::with(gc, 3, 0b11001);
     let gc = records::with(gc, 8, 0x3C);
     let gc = records::with(gc, 1, 2);
-    let gc = records::with(gc, 0, 2);
-    let seq = records::sequential();
-    write(gc, seq, p0, p1, p2, p3, picture, 0xA0001, 0x2D)
+    records::with(gc, 0, 2)
 }
 
 // The latches as they are.
@@ -151,42 +164,36 @@ fn mode_3(
 
 // Case 9 of the document, and selected-plane reads, sequential and odd/even.
 fn compares() {
+    print::text(b"compare 3, Don't Care F, 3, 0\n");
+    compare(0x0F);
+    compare(0x03);
+    compare(0x00);
+    print::text(b"map select 2 and 1, then with GC odd/even\n");
+    select(0x00, 2);
+    select(0x00, 1);
+    select(0x10, 2);
+    select(0x10, 1);
+}
+
+fn compare(care: u8) {
+    let gc = records::with(records::of_mode(0x08), 2, 3);
+    read_of_case_9(records::with(gc, 7, care), 0xA0000);
+}
+
+fn select(mode: u8, map_select: u8) {
+    let gc = records::with(records::of_mode(mode), 4, map_select);
+    read_of_case_9(read_of_case_9(gc, 0xA0000), 0xA0001);
+}
+
+// A read of the bytes of case 9, and of four others behind them.
+fn read_of_case_9(gc: GraphicsController, address: usize) -> GraphicsController {
     let p0 = [0xF0u8, 0x01];
     let p1 = [0xCCu8, 0x02];
     let p2 = [0xAAu8, 0x03];
     let p3 = [0x00u8, 0x04];
     let picture = [0u8; 16];
-    print::text(b"compare 3, Don't Care F, 3, 0\n");
-    let gc = records::with(records::of_mode(0x08), 2, 3);
-    compare(gc, &p0, &p1, &p2, &p3, &picture, 0x0F);
-    compare(gc, &p0, &p1, &p2, &p3, &picture, 0x03);
-    compare(gc, &p0, &p1, &p2, &p3, &picture, 0x00);
-    print::text(b"map select 2 and 1, then with GC odd/even\n");
-    select(&p0, &p1, &p2, &p3, &picture, 0x00, 2);
-    select(&p0, &p1, &p2, &p3, &picture, 0x00, 1);
-    select(&p0, &p1, &p2, &p3, &picture, 0x10, 2);
-    select(&p0, &p1, &p2, &p3, &picture, 0x10, 1);
-}
-
-fn compare(
-    gc: GraphicsController,
-    p0: &[u8],
-    p1: &[u8],
-    p2: &[u8],
-    p3: &[u8],
-    picture: &[u8],
-    care: u8,
-) {
     let seq = records::sequential();
-    let gc = records::with(gc, 7, care);
-    read(gc, seq, p0, p1, p2, p3, picture, 0xA0000);
-}
-
-fn select(p0: &[u8], p1: &[u8], p2: &[u8], p3: &[u8], picture: &[u8], mode: u8, map_select: u8) {
-    let seq = records::sequential();
-    let gc = records::with(records::of_mode(mode), 4, map_select);
-    let gc = read(gc, seq, p0, p1, p2, p3, picture, 0xA0000);
-    read(gc, seq, p0, p1, p2, p3, picture, 0xA0001);
+    read(gc, seq, &p0, &p1, &p2, &p3, &picture, address)
 }
 
 // Eight bytes a plane, and a picture that does not match: what is remade is seen.
@@ -208,9 +215,13 @@ fn mask(mode: u8, memory_mode: u8, map_mask: u8, address: usize) {
     print::one_byte(memory_mode);
     print::one_byte(map_mask);
     print::text(b": ");
-    let gc = records::with(records::of_mode(mode), 8, 0xFF);
     let seq = records::with_seq(records::sequential(), 4, memory_mode);
-    let seq = records::with_seq(seq, 2, map_mask);
+    let masked = records::with_seq(seq, 2, map_mask);
+    write_5a(records::of_mode(mode), masked, address);
+}
+
+fn write_5a(gc: GraphicsController, seq: Sequencer, address: usize) {
+    let gc = records::with(gc, 8, 0xFF);
     let mut p0 = [0u8; 8];
     let mut p1 = [0u8; 8];
     let mut p2 = [0u8; 8];
@@ -279,8 +290,11 @@ fn out(mode: u8, map_mask: u8, address: usize) {
     print::one_byte(mode);
     print::one_byte(map_mask);
     print::text(b": ");
-    let gc = records::of_mode(mode);
     let seq = records::with_seq(records::sequential(), 2, map_mask);
+    read_then_write(records::of_mode(mode), seq, address);
+}
+
+fn read_then_write(gc: GraphicsController, seq: Sequencer, address: usize) {
     let mut p0 = [0x12u8; 2];
     let mut p1 = [0x34u8; 2];
     let mut p2 = [0x56u8; 2];

@@ -33,21 +33,35 @@ fn kept(gc: GraphicsController, address: u8) -> GraphicsController {
 }
 
 fn taken(gc: GraphicsController, address: u8, byte: u8) -> GraphicsController {
-    let selected = graphics_controller::write_address(gc, address);
-    let wrote = graphics_controller::write_data(selected.gc, byte);
-    let first = selected.answer;
-    let second = wrote.answer;
     print::one_byte(address);
     print::text(b":");
-    print::done_answer(first);
-    print::text(b",");
-    print::done_answer(second);
-    print::text(b",");
-    print::byte_answer(graphics_controller::read_address(wrote.gc));
-    print::text(b",");
-    print::byte_answer(graphics_controller::read_data(wrote.gc));
+    let wrote = data(selected(gc, address), byte);
+    back(wrote);
     print::text(b"\n");
+    wrote
+}
+
+pub fn selected(gc: GraphicsController, address: u8) -> GraphicsController {
+    let selected = graphics_controller::write_address(gc, address);
+    let answer = selected.answer;
+    print::done_answer(answer);
+    print::comma();
+    selected.gc
+}
+
+pub fn data(gc: GraphicsController, byte: u8) -> GraphicsController {
+    let wrote = graphics_controller::write_data(gc, byte);
+    let answer = wrote.answer;
+    print::done_answer(answer);
+    print::comma();
     wrote.gc
+}
+
+// What is read back.
+pub fn back(gc: GraphicsController) {
+    print::byte_answer(graphics_controller::read_address(gc));
+    print::comma();
+    print::byte_answer(graphics_controller::read_data(gc));
 }
 
 fn fields() {
@@ -71,13 +85,13 @@ fn field(mode: u8, miscellaneous: u8) {
 // The five fields of a record.
 pub fn row(gc: GraphicsController) {
     print::flag_answer(graphics_controller::chain(gc));
-    print::text(b",");
+    print::comma();
     print::flag_answer(graphics_controller::chain4(gc));
-    print::text(b",");
+    print::comma();
     print::map_answer(graphics_controller::memory_map(gc));
-    print::text(b",");
+    print::comma();
     print::odd_even_answer(graphics_controller::odd_even(gc));
-    print::text(b",");
+    print::comma();
     print::shift_answer(graphics_controller::shift_mode(gc));
 }
 

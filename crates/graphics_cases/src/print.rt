@@ -4,7 +4,7 @@ use machine::ByteAnswer;
 use machine::DoneAnswer;
 use machine::FlagAnswer;
 use machine::GraphicsController;
-use machine::GraphicsRegister;
+use machine::GraphicsControllerStats;
 use machine::GraphicsRegisters;
 use machine::MapAnswer;
 use machine::MappedAnswer;
@@ -48,6 +48,11 @@ pub fn bytes(s: &[u8]) {
         byte(s[i]);
         i += 1;
     }
+}
+
+// Between two answers of a line.
+pub fn comma() {
+    text(b",");
 }
 
 // ---- answers: number and value
@@ -172,34 +177,37 @@ pub fn part_answer(refusal: u8, part: &[u8]) {
 
 // ---- the record and the memory
 
-fn register_number(register: GraphicsRegister) -> u64 {
-    match register {
-        GraphicsRegister::SetReset => 0,
-        GraphicsRegister::EnableSetReset => 1,
-        GraphicsRegister::ColorCompare => 2,
-        GraphicsRegister::DataRotate => 3,
-        GraphicsRegister::ReadMapSelect => 4,
-        GraphicsRegister::Mode => 5,
-        GraphicsRegister::Miscellaneous => 6,
-        GraphicsRegister::ColorDontCare => 7,
-        GraphicsRegister::BitMask => 8,
-    }
-}
-
 fn registers(r: GraphicsRegisters) {
     let selected = r.register_selected;
     number(r.register_select_byte as u64);
-    number(register_number(selected));
-    text(b",");
+    number(fields::gc::register_number(selected) as u64);
+    comma();
+    registers_0_to_4(r);
+    registers_5_to_8(r);
+}
+
+fn registers_0_to_4(r: GraphicsRegisters) {
     one_byte(r.set_reset);
     one_byte(r.enable_set_reset);
     one_byte(r.color_compare);
     one_byte(r.data_rotate);
     one_byte(r.read_map_select);
+}
+
+fn registers_5_to_8(r: GraphicsRegisters) {
     one_byte(r.mode);
     one_byte(r.miscellaneous);
     one_byte(r.color_dont_care);
     one_byte(r.bitmask);
+}
+
+fn counts(stats: GraphicsControllerStats) {
+    number(stats.mode_0_writes as u64);
+    number(stats.mode_1_writes as u64);
+    number(stats.mode_2_writes as u64);
+    number(stats.mode_3_writes as u64);
+    number(stats.mode_0_reads as u64);
+    number(stats.mode_1_reads as u64);
 }
 
 // Address and selection, nine registers, six counters, four latches.
@@ -207,19 +215,18 @@ pub fn record(gc: GraphicsController) {
     text(b"  record");
     registers(gc.registers);
     text(b", counts");
-    number(gc.stats.mode_0_writes as u64);
-    number(gc.stats.mode_1_writes as u64);
-    number(gc.stats.mode_2_writes as u64);
-    number(gc.stats.mode_3_writes as u64);
-    number(gc.stats.mode_0_reads as u64);
-    number(gc.stats.mode_1_reads as u64);
+    counts(gc.stats);
     text(b", latches");
     let latches = gc.latches;
+    four(latches);
+    text(b"\n");
+}
+
+fn four(latches: [u8; 4]) {
     one_byte(latches[0]);
     one_byte(latches[1]);
     one_byte(latches[2]);
     one_byte(latches[3]);
-    text(b"\n");
 }
 
 pub fn memory(p0: &[u8], p1: &[u8], p2: &[u8], p3: &[u8], picture: &[u8]) {

@@ -11,15 +11,24 @@ pub fn tell() {
     print::text(
         b"the five fields, read_address, read_data, write_address, write_data, map_address\n",
     );
+    all_ports();
+    print::text(
+        b"the same, then sequencer Reset, Map Mask, Clocking Mode, Character Map Select, Memory Mode: read, peek, write, show\n",
+    );
+    bad_gc();
+    bad_seq();
+}
+
+fn all_ports() {
     ports_of(records::bad_gc(0));
     ports_of(records::bad_gc(1));
     ports_of(records::bad_gc(2));
     ports_of(records::bad_gc(3));
     ports_of(records::bad_gc(4));
     ports_of(records::bad_gc(5));
-    print::text(
-        b"the same, then sequencer Reset, Map Mask, Clocking Mode, Character Map Select, Memory Mode: read, peek, write, show\n",
-    );
+}
+
+fn bad_gc() {
     let seq = records::sequential();
     accesses_of(records::bad_gc(0), seq);
     accesses_of(records::bad_gc(1), seq);
@@ -27,6 +36,9 @@ pub fn tell() {
     accesses_of(records::bad_gc(3), seq);
     accesses_of(records::bad_gc(4), seq);
     accesses_of(records::bad_gc(5), seq);
+}
+
+fn bad_seq() {
     let gc = records::window_64k();
     accesses_of(gc, records::bad_seq(0));
     accesses_of(gc, records::bad_seq(1));
@@ -37,22 +49,13 @@ pub fn tell() {
 
 fn ports_of(gc: GraphicsController) {
     ports::row(gc);
-    print::text(b",");
-    print::byte_answer(graphics_controller::read_address(gc));
-    print::text(b",");
-    print::byte_answer(graphics_controller::read_data(gc));
-    print::text(b",");
-    let selected = graphics_controller::write_address(gc, 3);
-    let first = selected.answer;
-    print::done_answer(first);
-    print::text(b",");
-    let wrote = graphics_controller::write_data(selected.gc, 3);
-    let second = wrote.answer;
-    print::done_answer(second);
-    print::text(b",");
+    print::comma();
+    ports::back(gc);
+    print::comma();
+    let wrote = ports::data(ports::selected(gc, 3), 3);
     print::mapped_answer(graphics_controller::map_address(gc, 0xA0000, false));
     print::text(b"\n");
-    print::record(wrote.gc);
+    print::record(wrote);
 }
 
 fn accesses_of(gc: GraphicsController, seq: Sequencer) {
@@ -74,32 +77,9 @@ pub fn row(
     p3: &mut [u8],
     picture: &mut [u8],
 ) {
-    let got = graphics_controller::cpu_read_u8(gc, seq, p0, p1, p2, p3, picture, 0xA0000, false);
-    let answer = got.answer;
-    print::byte_answer(answer);
-    print::text(b",");
-    let peeked = graphics_controller::cpu_peek_u8(gc, seq, p0, p1, p2, p3, picture, 0xA0000, false);
-    print::byte_answer(peeked);
-    print::text(b",");
-    let wrote = put(got.gc, seq, p0, p1, p2, p3, picture);
-    print::text(b",");
-    shows::part(gc, seq, p0, p1, p2, p3, picture, 0);
-    print::text(b"\n");
-    print::record(wrote);
-    print::memory(p0, p1, p2, p3, picture);
-}
-
-fn put(
-    gc: GraphicsController,
-    seq: Sequencer,
-    p0: &mut [u8],
-    p1: &mut [u8],
-    p2: &mut [u8],
-    p3: &mut [u8],
-    picture: &mut [u8],
-) -> GraphicsController {
+    let got = reads(gc, seq, p0, p1, p2, p3, picture);
     let wrote = graphics_controller::cpu_write_u8(
-        gc,
+        got,
         seq,
         p0,
         p1,
@@ -112,5 +92,42 @@ fn put(
     );
     let answer = wrote.answer;
     print::store_answer(answer);
-    wrote.gc
+    rest(gc, wrote.gc, seq, p0, p1, p2, p3, picture);
+}
+
+// A show, the record as the write left it, and the memory.
+fn rest(
+    gc: GraphicsController,
+    wrote: GraphicsController,
+    seq: Sequencer,
+    p0: &[u8],
+    p1: &[u8],
+    p2: &[u8],
+    p3: &[u8],
+    picture: &[u8],
+) {
+    print::comma();
+    shows::part(gc, seq, p0, p1, p2, p3, picture, 0);
+    print::text(b"\n");
+    print::record(wrote);
+    print::memory(p0, p1, p2, p3, picture);
+}
+
+fn reads(
+    gc: GraphicsController,
+    seq: Sequencer,
+    p0: &[u8],
+    p1: &[u8],
+    p2: &[u8],
+    p3: &[u8],
+    picture: &[u8],
+) -> GraphicsController {
+    let got = graphics_controller::cpu_read_u8(gc, seq, p0, p1, p2, p3, picture, 0xA0000, false);
+    let answer = got.answer;
+    print::byte_answer(answer);
+    print::comma();
+    let peeked = graphics_controller::cpu_peek_u8(gc, seq, p0, p1, p2, p3, picture, 0xA0000, false);
+    print::byte_answer(peeked);
+    print::comma();
+    got.gc
 }

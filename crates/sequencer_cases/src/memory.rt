@@ -19,6 +19,11 @@ pub fn show(p0: &[u8; 6], p1: &[u8; 6], p2: &[u8; 6], p3: &[u8; 6], picture: &[u
     six(p1);
     six(p2);
     six(p3);
+    pixels(picture);
+    print::text(b"\n");
+}
+
+fn pixels(picture: &[u8; 48]) {
     print::text(b" ");
     eight(picture, 0);
     eight(picture, 8);
@@ -26,7 +31,6 @@ pub fn show(p0: &[u8; 6], p1: &[u8; 6], p2: &[u8; 6], p3: &[u8; 6], picture: &[u
     eight(picture, 24);
     eight(picture, 32);
     eight(picture, 40);
-    print::text(b"\n");
 }
 
 // The eight pixels of an offset, from the first one's place.

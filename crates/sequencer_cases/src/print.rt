@@ -18,7 +18,7 @@ pub fn line(s: &[u8]) {
     text(b"\n");
 }
 
-pub fn number(n: u64) {
+fn number(n: u64) {
     io::print_decimal(STDOUT_FILENO, n);
 }
 
@@ -31,20 +31,28 @@ fn pixel(x: u8) {
     io::print_hex(STDOUT_FILENO, x as u64, 1);
 }
 
+fn spaced(n: u64) {
+    text(b" ");
+    number(n);
+}
+
+fn spaced_hex(x: u8) {
+    text(b" ");
+    hex(x);
+}
+
 // An answer: its number and its value.
 fn pair(told: u8, value: u64) {
-    text(b" ");
-    number(told as u64);
-    text(b" ");
-    number(value);
+    spaced(told as u64);
+    spaced(value);
 }
 
 pub fn byte_answer(name: &[u8], answer: ByteAnswer) {
     text(name);
     match answer {
         ByteAnswer::Done(x) => {
-            text(b" 0 ");
-            hex(x);
+            spaced(0);
+            spaced_hex(x);
         }
         ByteAnswer::Refused(r) => pair(refusal_number(r), 0),
     }
@@ -85,8 +93,7 @@ pub fn clock_answer(name: &[u8], answer: ClockAnswer) {
 // A show's number, and its eight pixels or `-` for an empty part.
 pub fn part_answer(name: &[u8], told: u8, part: &[u8]) {
     text(name);
-    text(b" ");
-    number(told as u64);
+    spaced(told as u64);
     text(b" ");
     if part.len() == 8 {
         eight(part, 0);
@@ -122,24 +129,22 @@ fn register(r: SequencerRegister) {
     }
 }
 
-// The whole record: address and selection, the five registers, mark, divisor, clock.
+// The whole record after a space: address and selection, the five registers, mark, divisor, clock.
 pub fn record(seq: Sequencer) {
-    hex(seq.address_byte);
+    spaced_hex(seq.address_byte);
     text(b" ");
     let selected = seq.register_selected;
     register(selected);
-    text(b" ");
-    hex(seq.reset);
-    text(b" ");
-    hex(seq.clocking_mode);
-    text(b" ");
-    hex(seq.map_mask);
-    text(b" ");
-    hex(seq.character_map_select);
-    text(b" ");
-    hex(seq.memory_mode);
+    registers(seq);
     pair(seq.clock_change_pending as u8, seq.clock_divisor as u64);
-    text(b" ");
-    number(seq.char_clock as u64);
+    spaced(seq.char_clock as u64);
     text(b"\n");
+}
+
+fn registers(seq: Sequencer) {
+    spaced_hex(seq.reset);
+    spaced_hex(seq.clocking_mode);
+    spaced_hex(seq.map_mask);
+    spaced_hex(seq.character_map_select);
+    spaced_hex(seq.memory_mode);
 }

@@ -16,6 +16,7 @@ enum Kind {
 pub fn tell() {
     print::line(b"every byte of a plane is 0F and every pixel 9 before; the byte is A5");
     sequential();
+    stopped();
     odd_even();
     chain_four();
     refused();
@@ -34,6 +35,9 @@ fn sequential() {
     store(Kind::Set, b"the same with a0", all, 1, 5, true);
     store(Kind::And, b"and", all, 1, 5, false);
     store(Kind::Or, b"or", all, 1, 5, false);
+}
+
+fn stopped() {
     let without = masked(0x0D, 0x04);
     store(Kind::Set, b"Map Mask D: stopped", without, 1, 5, false);
     store(Kind::And, b"and, stopped", without, 1, 5, false);
@@ -65,40 +69,18 @@ fn odd_even() {
 
 // Document 01's case 10, and more.
 fn chain_four() {
-    let none = masked(0x00, 0x0C);
+    chained(b"chain-four, Map Mask 0, at 5, plane 0: stopped", 0);
+    chained(b"chain-four, Map Mask 0, at 5, plane 1", 1);
+    chained(b"chain-four, Map Mask 0, at 5, plane 2: stopped", 2);
+    chained(b"chain-four, Map Mask 0, at 5, plane 3: stopped", 3);
     store(
-        Kind::Set,
-        b"chain-four, Map Mask 0, at 5, plane 0: stopped",
-        none,
-        0,
-        5,
-        false,
-    );
-    store(
-        Kind::Set,
-        b"chain-four, Map Mask 0, at 5, plane 1",
-        none,
-        1,
-        5,
-        false,
-    );
-    store(
-        Kind::Set,
-        b"chain-four, Map Mask 0, at 5, plane 2: stopped",
-        none,
+        Kind::And,
+        b"chain-four, and, at 2",
+        masked(0x00, 0x0C),
         2,
-        5,
+        2,
         false,
     );
-    store(
-        Kind::Set,
-        b"chain-four, Map Mask 0, at 5, plane 3: stopped",
-        none,
-        3,
-        5,
-        false,
-    );
-    store(Kind::And, b"chain-four, and, at 2", none, 2, 2, false);
     store(
         Kind::Or,
         b"chain-four, odd/even, a0, or, at 3",
@@ -107,6 +89,10 @@ fn chain_four() {
         3,
         true,
     );
+}
+
+fn chained(label: &[u8], plane: usize) {
+    store(Kind::Set, label, masked(0x00, 0x0C), plane, 5, false);
 }
 
 fn refused() {
@@ -138,7 +124,6 @@ fn store(kind: Kind, label: &[u8], seq: Sequencer, plane: usize, at: usize, a0: 
     let mut p2 = [0x0F; 6];
     let mut p3 = [0x0F; 6];
     let mut picture = [9; 48];
-    let o = PlaneOffset(at);
     let answer = call(
         kind,
         seq,
@@ -148,16 +133,20 @@ fn store(kind: Kind, label: &[u8], seq: Sequencer, plane: usize, at: usize, a0: 
         &mut p3,
         &mut picture,
         plane,
-        o,
+        PlaneOffset(at),
         a0,
     );
     print::line(label);
+    told(kind, answer);
+    memory::show(&p0, &p1, &p2, &p3, &picture);
+}
+
+fn told(kind: Kind, answer: StoreAnswer) {
     match kind {
         Kind::Set => print::store_answer(b"  plane_set", answer),
         Kind::And => print::store_answer(b"  plane_and", answer),
         Kind::Or => print::store_answer(b"  plane_or", answer),
     }
-    memory::show(&p0, &p1, &p2, &p3, &picture);
 }
 
 fn call(

@@ -1,15 +1,9 @@
--- `lengths` is safe: a part of an array up to a length within it has that length.
+-- `on_memory` is safe: a part of an array up to a length within it has that length.
 use native.Mathlib.Omega.{arith}
 use lib.ListN.{length-take}
 use borrow.Author.Needs.{needs}
-use Rattle.sequencer_cases.proofs.refusals.lengths.Statement.{statement}
-use Rattle.sequencer_cases.proofs.refusals.lengths.Tie as tie
-
-made-requires : tie.Need-made-requires
-made-requires c κs = search needs
-
-line-requires : tie.Need-line-requires
-line-requires c κs = search needs
+use Rattle.sequencer_cases.proofs.refusals.on_memory.Statement.{statement}
+use Rattle.sequencer_cases.proofs.refusals.on_memory.Tie as tie
 
 array-borrow-prefix-p0 : tie.Need-array-borrow-prefix-p0
 array-borrow-prefix-p0 c = search needs
@@ -56,12 +50,10 @@ show-requires c κs = search needs
 returns : tie.Need-returns
 returns c = search needs
 
-pub lengths-spec : {M : Type 1} → statement M
-lengths-spec =
+pub on-memory-spec : {M : Type 1} → statement M
+on-memory-spec =
     tie.close
     (tie.spec
-    made-requires
-    line-requires
     array-borrow-prefix-p0
     slice-aggregate-m0
     array-borrow-prefix-p1
