@@ -37,13 +37,15 @@ pub fn shaped(shape: Shape) -> bool
 pub fn judge_plane(shape: Shape, plane: usize, offset: PlaneOffset) -> DoneAnswer
     ensures { λ r. ⌜ doneSaid r .number ≡ planeNumber shape plane (offset .0) ⌝ }
 {
+    let at = offset.0;
+    let n = shape.p0;
     if !shaped(shape) {
         return DoneAnswer::Refused(Refusal::Memory);
     }
     if plane > 3 {
         return DoneAnswer::Refused(Refusal::Plane);
     }
-    if offset.0 >= shape.p0 {
+    if at >= n {
         return DoneAnswer::Refused(Refusal::Offset);
     }
     DoneAnswer::Done

@@ -22,12 +22,12 @@ returns-2 c =
 returns-3 : tie.Need-returns-3
 unfolding planeNumber
 returns-3 c =
-    simp (sym (c .before .before .before .before .before .shaped .ensures) ∙ not-false _ (c .before .before .before .before .if1 .left), le-leb _ 3 (c .before .before .before .if2 .left), le-ltb _ _ (c .if3 .taken))
+    simp (sym (c .before .before .before .shaped .ensures) ∙ not-false _ (c .before .before .if1 .left), le-leb _ 3 (c .before .if2 .left), le-ltb (c .before .before .before .before .args .offset .0) (c .before .before .before .before .args .shape .p0) (c .if3 .taken))
 
 returns-4 : tie.Need-returns-4
 unfolding planeNumber
 returns-4 c =
-    simp (sym (c .before .before .before .before .before .shaped .ensures) ∙ not-false _ (c .before .before .before .before .if1 .left), le-leb _ 3 (c .before .before .before .if2 .left), lt-ltb _ _ (c .if3 .left))
+    simp (sym (c .before .before .before .shaped .ensures) ∙ not-false _ (c .before .before .if1 .left), le-leb _ 3 (c .before .if2 .left), lt-ltb (c .before .before .before .before .args .offset .0) (c .before .before .before .before .args .shape .p0) (c .if3 .left))
 
 pub judge-plane-spec : {M : Type 1} → statement M
 judge-plane-spec = tie.close (tie.spec shaped-requires returns returns-2 returns-3 returns-4)
