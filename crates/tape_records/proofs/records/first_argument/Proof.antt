@@ -15,7 +15,7 @@ broken-requires c κs = search needs
 returns : tie.Need-returns
 unfolding firstOf
 returns c =
-    c .broken .ensures ∙ rw (lt-leb _ _ (c .before .if1 .taken))
+    c .broken .ensures ∙ rw (lt-leb _ 8 (c .before .if1 .taken))
 
 add-read-argument : tie.Need-add-read-argument
 add-read-argument c =
