@@ -3,12 +3,11 @@ use native.Mathlib.Omega.{arith}
 use mathlib.Core.Path.{refl}
 use borrow.Author.Needs.{needs}
 use Rattle.machine.proofs.Laws.{perform-done, perform-refused, refusal-some}
-use Rattle.machine.specs.Memory.{mem}
 use Rattle.machine.specs.Step.{vramStep}
 use Rattle.machine.specs.Calls.{vramPlan}
 use Rattle.machine.specs.Deeds.{memoryAfter, valueOf}
 use Rattle.judges.proofs.Told.{as-told}
-use Rattle.vram.proofs.Laws.{offset-asked}
+use Rattle.judges.proofs.Shapes.{offset-within}
 use Rattle.vram.proofs.read_glyph.Statement.{statement}
 use Rattle.vram.proofs.read_glyph.Tie as tie
 
@@ -23,8 +22,7 @@ enum-told c = search needs
 
 shared-slice-read-t18 : tie.Need-shared-slice-read-t18
 shared-slice-read-t18 c =
-    let start = c .before .before .before .before .before .before .before .before .before in
-    let h = offset-asked (mem (start .args .p0 .now) (start .args .p1 .now) (start .args .p2 .now) (start .args .p3 .now) (start .args .picture .now)) _ (as-told (c .before .enum-told .given .1) (c .before .before .before .judge-offset .ensures)) in omega arith
+    let h = offset-within _ _ (as-told (c .before .enum-told .given .1) (c .before .before .before .judge-offset .ensures)) in omega arith
 
 returns : tie.Need-returns
 unfolding vramStep vramPlan valueOf

@@ -1,11 +1,11 @@
 -- `read_linear` answers as the machine: refused by `judge_place`'s number, else the pixel.
-use mathlib.Core.Path.{refl, sym}
+use mathlib.Core.Path.{refl}
 use borrow.Author.Needs.{needs}
-use Rattle.machine.proofs.Laws.{perform-done, perform-refused, refusal-some, place-accepted}
-use Rattle.machine.specs.Memory.{mem}
+use Rattle.machine.proofs.Laws.{perform-done, perform-refused, refusal-some}
 use Rattle.machine.specs.Step.{vramStep}
 use Rattle.machine.specs.Calls.{vramPlan}
 use Rattle.machine.specs.Deeds.{memoryAfter, valueOf}
+use Rattle.judges.proofs.Shapes.{place-within}
 use Rattle.judges.proofs.Told.{as-told}
 use Rattle.vram.proofs.read_linear.Statement.{statement}
 use Rattle.vram.proofs.read_linear.Tie as tie
@@ -21,8 +21,7 @@ enum-told c = search needs
 
 shared-slice-read-t18 : tie.Need-shared-slice-read-t18
 shared-slice-read-t18 c =
-    let start = c .before .before .before .before .before .before .before .before .before in
-    place-accepted (mem (start .args .p0 .now) (start .args .p1 .now) (start .args .p2 .now) (start .args .p3 .now) (start .args .picture .now)) _ (sym (as-told (c .before .enum-told .given .1) (c .before .before .before .judge-place .ensures))) .place
+    place-within _ _ (as-told (c .before .enum-told .given .1) (c .before .before .before .judge-place .ensures))
 
 returns : tie.Need-returns
 unfolding vramStep vramPlan valueOf

@@ -30,7 +30,7 @@ enum-told-6 c = search needs
 
 returns : tie.Need-returns
 unfolding withSeqData seqKeeps
-returns c = rw (c .enum-told .given .1, data-keeps 2 (c .before .before .args .byte))
+returns c = simp (c .enum-told .given .1, data-keeps 2 (c .before .before .args .byte))
 
 returns-2 : tie.Need-returns-2
 unfolding withSeqData seqKeeps
