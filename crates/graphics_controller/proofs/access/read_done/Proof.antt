@@ -13,7 +13,7 @@ counted-read-requires : tie.Need-counted-read-requires
 counted-read-requires c κs = search needs
 
 returns : tie.Need-returns
-returns c = rw (c .before .read-byte .ensures, c .counted-read .ensures, c .before .before .read-mode .ensures)
+returns c = simp (c .before .read-byte .ensures, c .counted-read .ensures, c .before .before .read-mode .ensures)
 
 pub read-done-spec : {M : Type 1} → statement M
 read-done-spec =
