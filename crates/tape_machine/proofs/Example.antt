@@ -19,10 +19,12 @@ use Rattle.tape_records.specs.declared.records.Record.{Record}
 use Rattle.tape_records.specs.declared.records.Record.the-variants.{Whole, Broken}
 use Rattle.tape_records.specs.Numbers.{onTop, lastGroup, groups, numberOf}
 use Rattle.tape_records.specs.Records.{arguments, greatestOf, judged, argumentOf, commandOf, next, thirdOf, secondOf, firstOf, started, recordOf}
+use Rattle.machine.specs.declared.answer.Refusal.the-variants.{Room}
+use Rattle.machine.specs.declared.answer.DoneAnswer.the-variants.{Refused}
 use Rattle.tape_machine.specs.Performs.{performed}
 use Rattle.tape_machine.specs.Text.{digitsOf, decimalOf, fieldOf, hexOf}
 use Rattle.tape_machine.specs.Lines.{nameOf, valueOf, lineOf}
-use Rattle.tape_machine.specs.Run.{more, recordsAfter, recordsOf, recordLine, left, linesOf}
+use Rattle.tape_machine.specs.Run.{more, recordsAfter, recordsOf, recordLine, left, linesOf, ending, Outcome, outcome, ranTo, playedOf, runOf}
 
 -- the lines of a tape, with every definition open
 unfoldable pub computedLines : State → List ℕ → List ℕ
@@ -64,3 +66,18 @@ computedRecords tape = recordsOf tape
 pub stopped : computedRecords (0 ∷ 9 ∷ 0 ∷ []) ≡ Whole Reset 1 ∷ Broken (Was 9) Range ∷ []
 unfolding computedRecords
 stopped = refl
+
+-- a whole run, with every definition open
+unfoldable pub computedRun : List ℕ → State → List ℕ → Outcome
+unfolding bit field ofBits sound selects withAddress keeps withData fitsGc rotateCount logicFunction writeMode readMode oddEven shiftMode chained memoryMap selectsSeq withSeqAddress seqKeeps withSeqData fitsSeq seqOddEven chainFour inMask storedAt inWindow mapped offset dataBit combined masked writtenBit visits selectedPlane loaded pixelOf remade storedByte laid stored agrees compared latchesAfter memoryAfter repliedValue seqNumberOf seqValue seqNext gcNumberOf gcValue gcNext accessNumber showNumber counted readReply writeDeed cpuPlan sequencerStep graphicsStep cpuStep step onTop lastGroup groups numberOf arguments greatestOf judged argumentOf commandOf next thirdOf secondOf firstOf started recordOf performed digitsOf decimalOf fieldOf hexOf nameOf valueOf lineOf more recordsAfter recordsOf recordLine left linesOf ending playedOf runOf
+computedRun tape s out = runOf tape s out
+
+-- a reset, where there is room for the longest line: its line at the start of `out`, the other bytes as they were
+pub roomed : (computedRun (0 ∷ []) start (replicate 84 7) .out ≡ 49 ∷ 32 ∷ 48 ∷ 32 ∷ 48 ∷ 32 ∷ 48 ∷ 10 ∷ replicate 76 7) × (computedRun (0 ∷ []) start (replicate 84 7) .ran .written ≡ 8)
+unfolding computedRun start
+roomed = (refl, refl)
+
+-- .. and with a byte less: nothing is done
+pub no-room : computedRun (0 ∷ []) start (replicate 83 7) ≡ outcome (ranTo (Refused Room) 0 start) (start .memory) (replicate 83 7)
+unfolding computedRun
+no-room = refl

@@ -1,0 +1,45 @@
+-- Lines that document 01's example does not reach, computed: an unread operation, the two faults, every hexadecimal digit, a refused show, a byte.
+use Prim.Native.Nat.{ℕ}
+use mathlib.Core.Path.{_≡_, refl}
+use mathlib.Core.List.{List, [], _∷_}
+use Rattle.tape_records.specs.declared.records.Operation.the-variants.{Unread, Was}
+use Rattle.tape_records.specs.declared.records.Fault.the-variants.{Open, Damage, Range as OutOfRange}
+use Rattle.tape_machine.specs.declared.told.Handed.the-variants.{Byte}
+use Rattle.tape_machine.specs.Told.{toldSaid, handedOf}
+use Rattle.tape_machine.specs.Text.{digitsOf, decimalOf, fieldOf, hexOf, hexEight}
+use Rattle.tape_machine.specs.Lines.{nameOf, valueOf, lineOf}
+use Rattle.tape_machine.specs.Run.{faultSaid}
+
+-- what the definitions give, with each open
+unfoldable pub told : List (List ℕ)
+unfolding digitsOf decimalOf fieldOf hexOf nameOf valueOf lineOf handedOf
+told =
+    lineOf 1 Unread (faultSaid Open)
+    ∷ lineOf 20 (Was 9) (faultSaid OutOfRange)
+    ∷ lineOf 3 (Was 5) (faultSaid Damage)
+    ∷ lineOf 4 (Was 8) (toldSaid (record { number = 0; handed = handedOf (0 ∷ 1 ∷ 2 ∷ 3 ∷ 10 ∷ 11 ∷ 12 ∷ 15 ∷ []) }))
+    ∷ lineOf 7 (Was 8) (toldSaid (record { number = 0; handed = handedOf (4 ∷ 5 ∷ 6 ∷ 7 ∷ 8 ∷ 9 ∷ 13 ∷ 14 ∷ []) }))
+    ∷ lineOf 5 (Was 8) (toldSaid (record { number = 9; handed = handedOf [] }))
+    ∷ lineOf 6 (Was 5) (toldSaid (record { number = 0; handed = Byte 255 }))
+    ∷ []
+
+-- what the document says, a character a number
+pub toldSaidSo : List (List ℕ)
+toldSaidSo =
+    (49 ∷ 32 ∷ 45 ∷ 32 ∷ 55 ∷ 32 ∷ 48 ∷ 10 ∷ [])
+    ∷ (50 ∷ 48 ∷ 32 ∷ 57 ∷ 32 ∷ 56 ∷ 32 ∷ 48 ∷ 10 ∷ [])
+    ∷ (51 ∷ 32 ∷ 53 ∷ 32 ∷ 55 ∷ 32 ∷ 48 ∷ 10 ∷ [])
+    ∷ (52 ∷ 32 ∷ 56 ∷ 32 ∷ 48 ∷ 32 ∷ 48 ∷ 49 ∷ 50 ∷ 51 ∷ 65 ∷ 66 ∷ 67 ∷ 70 ∷ 10 ∷ [])
+    ∷ (55 ∷ 32 ∷ 56 ∷ 32 ∷ 48 ∷ 32 ∷ 52 ∷ 53 ∷ 54 ∷ 55 ∷ 56 ∷ 57 ∷ 68 ∷ 69 ∷ 10 ∷ [])
+    ∷ (53 ∷ 32 ∷ 56 ∷ 32 ∷ 57 ∷ 32 ∷ 48 ∷ 10 ∷ [])
+    ∷ (54 ∷ 32 ∷ 53 ∷ 32 ∷ 48 ∷ 32 ∷ 50 ∷ 53 ∷ 53 ∷ 10 ∷ [])
+    ∷ []
+
+pub line-rules : told ≡ toldSaidSo
+unfolding told toldSaidSo
+line-rules = refl
+
+-- the eight digits as the code writes them, two and two and four, the first pixel first
+pub digit-rules : hexEight (record { a = 0; b = 1; c = 2; d = 3; e = 10; f = 11; g = 12; h = 15 }) ≡ 48 ∷ 49 ∷ 50 ∷ 51 ∷ 65 ∷ 66 ∷ 67 ∷ 70 ∷ []
+unfolding hexOf
+digit-rules = refl
