@@ -30,7 +30,7 @@ use Rattle.machine.specs.DataPath.{selectedPlane}
 use Rattle.machine.specs.Deeds.{byte, latch, loaded, latchesAfter, memoryAfter, valueOf}
 use Rattle.machine.specs.Calls.{refuse, fitsBoth, accessNumber, shows, showNumber, CpuPlan, counted, readCounter, writeCounter, readReply, writeDeed, cpuPlan, cpuRead, cpuPeek, cpuWrite, serialize}
 use Rattle.machine.specs.Step.{device, lifted, cpuPerform, cpuStep}
-use Rattle.machine.proofs.Laws.{both, refuse-0, sound-shaped, AtOffset, answered-refused}
+use Rattle.machine.proofs.Laws.{both, refuse-0, sound-facts, AtOffset, answered-refused}
 use Rattle.judges.proofs.Held.{map-select-fits}
 use Rattle.judges.proofs.Windows.{left}
 use Rattle.graphics_controller.specs.Reads.{readByte}
@@ -87,14 +87,14 @@ judged r s m x page d f g w c ef eg ew ec e =
     left (accessNumber r s (shape m) x page) (two (offset r x page) (bitOf (a0 x))) (mappedSaid d) x r (rw (← ef, ← eg, ← ew, ← ec) e)
 
 -- 6, 1, 9 and 5 passed
-pub show-accepted : (r : GraphicsRegisters) (s : Sequencer) (m : Memory) (o : ℕ) → 0 ≡ showNumber r s (shape m) o → AtOffset m o
+pub show-accepted : (r : GraphicsRegisters) (s : Sequencer) (m : Memory) (o : ℕ) → 0 ≡ showNumber r s (shape m) o → AtOffset (shape m) o
 unfolding showNumber
 show-accepted r s m o e =
     let a = refuse-0 (fitsBoth r s) 5 _ (sym e) in
     let b = refuse-0 (sound (shape m)) 0 _ (a .1) in
     let c = refuse-0 (shows (shiftMode r)) 8 _ (b .1) in
     let d = refuse-0 _ 4 _ (c .1) in
-    record { shaped = sound-shaped m (b .0); offset = ltb-true _ _ (d .0) }
+    record { shaped = sound-facts (shape m) (b .0); offset = ltb-true _ _ (d .0) }
 
 -- ---- a plan carried out
 

@@ -38,17 +38,8 @@ pub extern "C" fn iddesmar_seq_cpu_read_u8(
         return unknown();
     }
     let sequencer = to_sequencer(seq);
-    let answer = sequencer::cpu_read_u8(
-        sequencer,
-        p0,
-        p1,
-        p2,
-        p3,
-        picture,
-        plane,
-        PlaneOffset(offset),
-        a0,
-    );
+    let at = PlaneOffset(offset);
+    let answer = sequencer::cpu_read_u8(sequencer, p0, p1, p2, p3, picture, plane, at, a0);
     of_byte(answer)
 }
 
@@ -70,17 +61,8 @@ pub extern "C" fn iddesmar_seq_peek_u8(
         return unknown();
     }
     let sequencer = to_sequencer(seq);
-    let answer = sequencer::peek_u8(
-        sequencer,
-        p0,
-        p1,
-        p2,
-        p3,
-        picture,
-        plane,
-        PlaneOffset(offset),
-        a0,
-    );
+    let at = PlaneOffset(offset);
+    let answer = sequencer::peek_u8(sequencer, p0, p1, p2, p3, picture, plane, at, a0);
     of_byte(answer)
 }
 
@@ -102,17 +84,8 @@ pub extern "C" fn iddesmar_seq_gc_read_u8(
         return unknown();
     }
     let sequencer = to_sequencer(seq);
-    let answer = sequencer::gc_read_u8(
-        sequencer,
-        p0,
-        p1,
-        p2,
-        p3,
-        picture,
-        plane,
-        PlaneOffset(offset),
-        a0,
-    );
+    let at = PlaneOffset(offset);
+    let answer = sequencer::gc_read_u8(sequencer, p0, p1, p2, p3, picture, plane, at, a0);
     of_byte(answer)
 }
 
@@ -153,16 +126,8 @@ pub extern "C" fn iddesmar_seq_serialize_linear(
     }
     let sequencer = to_sequencer(seq);
     let mut number = 0u8;
-    let part = sequencer::serialize_linear(
-        sequencer,
-        p0,
-        p1,
-        p2,
-        p3,
-        picture,
-        PlaneOffset(offset),
-        &mut number,
-    );
+    let at = PlaneOffset(offset);
+    let part = sequencer::serialize_linear(sequencer, p0, p1, p2, p3, picture, at, &mut number);
     of_part(number, part)
 }
 
@@ -185,18 +150,8 @@ pub extern "C" fn iddesmar_seq_plane_set(
         return unknown();
     }
     let sequencer = to_sequencer(seq);
-    let answer = sequencer::plane_set(
-        sequencer,
-        p0,
-        p1,
-        p2,
-        p3,
-        picture,
-        plane,
-        PlaneOffset(offset),
-        a0,
-        byte,
-    );
+    let at = PlaneOffset(offset);
+    let answer = sequencer::plane_set(sequencer, p0, p1, p2, p3, picture, plane, at, a0, byte);
     of_store(answer)
 }
 
@@ -219,18 +174,8 @@ pub extern "C" fn iddesmar_seq_plane_and(
         return unknown();
     }
     let sequencer = to_sequencer(seq);
-    let answer = sequencer::plane_and(
-        sequencer,
-        p0,
-        p1,
-        p2,
-        p3,
-        picture,
-        plane,
-        PlaneOffset(offset),
-        a0,
-        byte,
-    );
+    let at = PlaneOffset(offset);
+    let answer = sequencer::plane_and(sequencer, p0, p1, p2, p3, picture, plane, at, a0, byte);
     of_store(answer)
 }
 
@@ -253,17 +198,7 @@ pub extern "C" fn iddesmar_seq_plane_or(
         return unknown();
     }
     let sequencer = to_sequencer(seq);
-    let answer = sequencer::plane_or(
-        sequencer,
-        p0,
-        p1,
-        p2,
-        p3,
-        picture,
-        plane,
-        PlaneOffset(offset),
-        a0,
-        byte,
-    );
+    let at = PlaneOffset(offset);
+    let answer = sequencer::plane_or(sequencer, p0, p1, p2, p3, picture, plane, at, a0, byte);
     of_store(answer)
 }

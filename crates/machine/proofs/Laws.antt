@@ -5,13 +5,13 @@ use mathlib.Core.Path.{_≡_, refl}
 use mathlib.Core.Bool.{Bool, true, false, _&&_}
 use mathlib.Core.List.{[]}
 use lib.Dec.{eqb, ltb}
-use lib.ListN.{length}
 use borrow.Author.Tests.{ltb-true, leb-true, eqb-true}
 use Rattle.machine.specs.declared.answer.Refusal.{Refusal}
 use Rattle.machine.specs.declared.answer.Refusal.the-variants.{Memory as NoMemory, Window, Offset, Plane, Place, State, Damaged, Range, Shift, Room}
 use Rattle.machine.specs.declared.graphics.GraphicsRegisters.{GraphicsRegisters}
 use Rattle.machine.specs.declared.sequencer.Sequencer.{Sequencer}
-use Rattle.machine.specs.Memory.{Memory, shape, sound, Shaped}
+use Rattle.machine.specs.declared.shape.Shape.{Shape}
+use Rattle.machine.specs.Memory.{Memory, size, sound, Sound}
 use Rattle.machine.specs.Answers.{refusalNumber, Value, blank, said, outcome, answered}
 use Rattle.machine.specs.Graphics.{memoryMap}
 use Rattle.machine.specs.Address.{inWindow, offset}
@@ -64,9 +64,9 @@ pub refuse-0 : (b : Bool) (r n : ℕ) → refuse b (suc r) n ≡ 0 → (b ≡ tr
 refuse-0 true r n e = (refl, e)
 refuse-0 false r n e = absurd (omega arith)
 
-pub sound-shaped : (m : Memory) → sound (shape m) ≡ true → Shaped m
+pub sound-facts : (h : Shape) → sound h ≡ true → Sound h
 unfolding sound
-sound-shaped m e =
+sound-facts h e =
     let a = both _ _ e in
     let b = both _ _ (a .1) in
     let c = both _ _ (b .1) in
@@ -81,59 +81,59 @@ sound-shaped m e =
       eightfold = eqb-true _ _ (f .1);
     }
 
--- an offset within planes that are as they should be, and a plane number
-pub record AtOffset (m : Memory) (o : ℕ) : Type 0 where
-  pub shaped : Shaped m
-  pub offset : o < length (m .p0)
+-- an offset, a plane's number or a pixel place within lengths that are as they should be
+pub record AtOffset (h : Shape) (o : ℕ) : Type 0 where
+  pub shaped : Sound h
+  pub offset : o < size h
 
-pub record AtPlane (m : Memory) (p o : ℕ) : Type 0 where
-  pub shaped : Shaped m
+pub record AtPlane (h : Shape) (p o : ℕ) : Type 0 where
+  pub shaped : Sound h
   pub plane : p ≤ 3
-  pub offset : o < length (m .p0)
+  pub offset : o < size h
 
-pub record AtPlace (m : Memory) (j : ℕ) : Type 0 where
-  pub shaped : Shaped m
-  pub place : j < length (m .picture)
+pub record AtPlace (h : Shape) (j : ℕ) : Type 0 where
+  pub shaped : Sound h
+  pub place : j < h .picture
 
-module _ (m : Memory) where
-  pub offset-accepted : (o : ℕ) → offsetNumber (shape m) o ≡ 0 → AtOffset m o
+module _ (h : Shape) where
+  pub offset-accepted : (o : ℕ) → offsetNumber h o ≡ 0 → AtOffset h o
   unfolding offsetNumber
   offset-accepted o e =
       let a = refuse-0 _ 0 _ e in
       let b = refuse-0 _ 2 _ (a .1) in
-      record { shaped = sound-shaped m (a .0); offset = ltb-true _ _ (b .0) }
+      record { shaped = sound-facts h (a .0); offset = ltb-true _ _ (b .0) }
 
-  pub shown-accepted : (o : ℕ) → shownNumber (shape m) o ≡ 0 → AtOffset m o
+  pub shown-accepted : (o : ℕ) → shownNumber h o ≡ 0 → AtOffset h o
   unfolding shownNumber
   shown-accepted o e =
       let a = refuse-0 _ 0 _ e in
       let b = refuse-0 _ 4 _ (a .1) in
-      record { shaped = sound-shaped m (a .0); offset = ltb-true _ _ (b .0) }
+      record { shaped = sound-facts h (a .0); offset = ltb-true _ _ (b .0) }
 
-  pub plane-accepted : (p o : ℕ) → planeNumber (shape m) p o ≡ 0 → AtPlane m p o
+  pub plane-accepted : (p o : ℕ) → planeNumber h p o ≡ 0 → AtPlane h p o
   unfolding planeNumber
   plane-accepted p o e =
       let a = refuse-0 _ 0 _ e in
       let b = refuse-0 _ 3 _ (a .1) in
       let c = refuse-0 _ 2 _ (b .1) in
-      record { shaped = sound-shaped m (a .0); plane = leb-true _ _ (b .0); offset = ltb-true _ _ (c .0) }
+      record { shaped = sound-facts h (a .0); plane = leb-true _ _ (b .0); offset = ltb-true _ _ (c .0) }
 
-  pub place-accepted : (j : ℕ) → placeNumber (shape m) j ≡ 0 → AtPlace m j
+  pub place-accepted : (j : ℕ) → placeNumber h j ≡ 0 → AtPlace h j
   unfolding placeNumber
   place-accepted j e =
       let a = refuse-0 _ 0 _ e in
-      let b = refuse-0 (ltb j (8 * length (m .p0))) 4 _ (a .1) in
-      let s = sound-shaped m (a .0) in
-      record { shaped = s; place = omega (arith, ltb-true j (8 * length (m .p0)) (b .0)) }
+      let b = refuse-0 (ltb j (8 * size h)) 4 _ (a .1) in
+      let s = sound-facts h (a .0) in
+      record { shaped = s; place = omega (arith, ltb-true j (8 * size h) (b .0)) }
 
-  pub access-accepted : (r : GraphicsRegisters) (s : Sequencer) (x : ℕ) (page : Bool) → accessNumber r s (shape m) x page ≡ 0 → AtOffset m (offset r x page)
+  pub access-accepted : (r : GraphicsRegisters) (s : Sequencer) (x : ℕ) (page : Bool) → accessNumber r s h x page ≡ 0 → AtOffset h (offset r x page)
   unfolding accessNumber
   access-accepted r s x page e =
       let a = refuse-0 (fitsBoth r s) 5 _ e in
-      let b = refuse-0 (sound (shape m)) 0 _ (a .1) in
+      let b = refuse-0 (sound h) 0 _ (a .1) in
       let c = refuse-0 (inWindow (memoryMap r) x) 1 _ (b .1) in
       let d = refuse-0 _ 2 _ (c .1) in
-      record { shaped = sound-shaped m (b .0); offset = ltb-true _ _ (d .0) }
+      record { shaped = sound-facts h (b .0); offset = ltb-true _ _ (d .0) }
 
 -- ---- a store, plane by plane
 

@@ -52,14 +52,18 @@ unfoldable pub sound : Shape → Bool
 sound h = ltb 0 (size h) && (leb (size h) 65536 && (eqb (h .p1) (size h) && (eqb (h .p2) (size h)
     && (eqb (h .p3) (size h) && eqb (h .picture) (8 * size h)))))
 
--- the same as facts: what an inner function asks of its caller
-pub record Shaped (m : Memory) : Type 0 where
-  pub some : 0 < length (m .p0)
-  pub most : length (m .p0) ≤ 65536
-  pub same1 : length (m .p1) ≡ length (m .p0)
-  pub same2 : length (m .p2) ≡ length (m .p0)
-  pub same3 : length (m .p3) ≡ length (m .p0)
-  pub eightfold : length (m .picture) ≡ 8 * length (m .p0)
+-- the same as facts
+pub record Sound (h : Shape) : Type 0 where
+  pub some : 0 < size h
+  pub most : size h ≤ 65536
+  pub same1 : h .p1 ≡ size h
+  pub same2 : h .p2 ≡ size h
+  pub same3 : h .p3 ≡ size h
+  pub eightfold : h .picture ≡ 8 * size h
+
+-- .. of a memory: what an inner function asks of its caller
+abbrev pub Shaped : Memory → Type 0
+Shaped m = Sound (shape m)
 
 -- the memory behind five lent slices: as they stand, where a call begins, where it returns
 abbrev pub lent : RefT (List ℕ) → RefT (List ℕ) → RefT (List ℕ) → RefT (List ℕ) → RefT (List ℕ) → Memory

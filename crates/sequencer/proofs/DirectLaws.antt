@@ -42,10 +42,10 @@ abbrev pub Judged : Sequencer → Memory → ℕ → ℕ → DoneAnswer → Type
 Judged s m p o d = doneSaid d .number ≡ refuse (fitsSeq s) 6 (planeNumber (shape m) p o)
 
 -- refusals 6, 1, 4, 3 passed
-pub accepted : (s : Sequencer) (m : Memory) (p o : ℕ) {d : DoneAnswer} → Judged s m p o d → d ≡ Done → (fitsSeq s ≡ true) × AtPlane m p o
+pub accepted : (s : Sequencer) (m : Memory) (p o : ℕ) {d : DoneAnswer} → Judged s m p o d → d ≡ Done → (fitsSeq s ≡ true) × AtPlane (shape m) p o
 accepted s m p o j e =
     let a = refuse-0 (fitsSeq s) 5 (planeNumber (shape m) p o) (sym (as-told e j)) in
-    (a .0, plane-accepted m p o (a .1))
+    (a .0, plane-accepted (shape m) p o (a .1))
 
 -- a read by plane, whatever its kind, by what its judge answered
 module _ (s : Sequencer) (m : Memory) (p o : ℕ) (a : Bool) {d : DoneAnswer} (j : Judged s m p o d) where

@@ -93,18 +93,8 @@ pub fn cpu_read_u8(
 ) -> ByteAnswer
     ensures { λ r. ⌜ outcome (byteSaid r) (before p0 p1 p2 p3 picture) ≡ directStep seq (before p0 p1 p2 p3 picture) (seqCpuReadU8 plane (offset .0) a0) ⌝ }
 {
-    plane_read(
-        seq,
-        p0,
-        p1,
-        p2,
-        p3,
-        picture,
-        plane,
-        offset,
-        a0,
-        PlaneRead::Cpu,
-    )
+    let kind = PlaneRead::Cpu;
+    plane_read(seq, p0, p1, p2, p3, picture, plane, offset, a0, kind)
 }
 
 // A plane's byte; sequential with chain-four set reads at the offset with its low two bits clear.
@@ -121,18 +111,8 @@ pub fn gc_read_u8(
 ) -> ByteAnswer
     ensures { λ r. ⌜ outcome (byteSaid r) (before p0 p1 p2 p3 picture) ≡ directStep seq (before p0 p1 p2 p3 picture) (seqGcReadU8 plane (offset .0) a0) ⌝ }
 {
-    plane_read(
-        seq,
-        p0,
-        p1,
-        p2,
-        p3,
-        picture,
-        plane,
-        offset,
-        a0,
-        PlaneRead::Gc,
-    )
+    let kind = PlaneRead::Gc;
+    plane_read(seq, p0, p1, p2, p3, picture, plane, offset, a0, kind)
 }
 
 // A plane's byte, as `cpu_read_u8` reads it.
@@ -262,19 +242,8 @@ pub fn plane_set(
 ) -> StoreAnswer
     ensures { λ r. ⌜ outcome (storeSaid r) (after p0 p1 p2 p3 picture) ≡ directStep seq (before p0 p1 p2 p3 picture) (seqPlaneSet plane (offset .0) a0 byte) ⌝ }
 {
-    plane_store(
-        seq,
-        p0,
-        p1,
-        p2,
-        p3,
-        picture,
-        plane,
-        offset,
-        a0,
-        PlaneStore::Set,
-        byte,
-    )
+    let kind = PlaneStore::Set;
+    plane_store(seq, p0, p1, p2, p3, picture, plane, offset, a0, kind, byte)
 }
 
 // The plane's byte `and` the one given, put in its place where the mask has the plane.
@@ -292,19 +261,8 @@ pub fn plane_and(
 ) -> StoreAnswer
     ensures { λ r. ⌜ outcome (storeSaid r) (after p0 p1 p2 p3 picture) ≡ directStep seq (before p0 p1 p2 p3 picture) (seqPlaneAnd plane (offset .0) a0 byte) ⌝ }
 {
-    plane_store(
-        seq,
-        p0,
-        p1,
-        p2,
-        p3,
-        picture,
-        plane,
-        offset,
-        a0,
-        PlaneStore::And,
-        byte,
-    )
+    let kind = PlaneStore::And;
+    plane_store(seq, p0, p1, p2, p3, picture, plane, offset, a0, kind, byte)
 }
 
 // The plane's byte `or` the one given, put in its place where the mask has the plane.
@@ -322,17 +280,6 @@ pub fn plane_or(
 ) -> StoreAnswer
     ensures { λ r. ⌜ outcome (storeSaid r) (after p0 p1 p2 p3 picture) ≡ directStep seq (before p0 p1 p2 p3 picture) (seqPlaneOr plane (offset .0) a0 byte) ⌝ }
 {
-    plane_store(
-        seq,
-        p0,
-        p1,
-        p2,
-        p3,
-        picture,
-        plane,
-        offset,
-        a0,
-        PlaneStore::Or,
-        byte,
-    )
+    let kind = PlaneStore::Or;
+    plane_store(seq, p0, p1, p2, p3, picture, plane, offset, a0, kind, byte)
 }

@@ -6,7 +6,7 @@ use Rattle.tape_records.specs.declared.records.Operation.the-variants.{Unread, 
 use Rattle.tape_records.specs.declared.records.Fault.the-variants.{Open, Damage, Range as OutOfRange}
 use Rattle.tape_machine.specs.declared.told.Handed.the-variants.{Byte}
 use Rattle.tape_machine.specs.Told.{toldSaid, handedOf}
-use Rattle.tape_machine.specs.Text.{digitsOf, decimalOf, fieldOf, hexOf, hexEight}
+use Rattle.tape_machine.specs.Text.{digitsOf, decimalOf, fieldOf, hexOf}
 use Rattle.tape_machine.specs.Lines.{nameOf, valueOf, lineOf}
 use Rattle.tape_machine.specs.Run.{faultSaid}
 
@@ -38,8 +38,3 @@ toldSaidSo =
 pub line-rules : told ≡ toldSaidSo
 unfolding told toldSaidSo
 line-rules = refl
-
--- the eight digits as the code writes them, two and two and four, the first pixel first
-pub digit-rules : hexEight (record { a = 0; b = 1; c = 2; d = 3; e = 10; f = 11; g = 12; h = 15 }) ≡ 48 ∷ 49 ∷ 50 ∷ 51 ∷ 65 ∷ 66 ∷ 67 ∷ 70 ∷ []
-unfolding hexOf
-digit-rules = refl

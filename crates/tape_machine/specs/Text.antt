@@ -1,12 +1,11 @@
 -- Numbers and pixels as text, and text written into a list.
 use Prim.Native.Nat.{ℕ, zero, suc, _+_, _/_, _%_}
 use mathlib.Core.Path.{_≡_}
-use mathlib.Core.List.{List, [], _∷_, _++_}
+use mathlib.Core.List.{List, [], _∷_, _++_, map}
 use lib.Dec.{ltb}
 use lib.ListN.{length, getD}
 use lib.Seq.{sets}
 use Rattle.bits.specs.Bit.{pick}
-use Rattle.tape_machine.specs.declared.told.Eight.{Eight}
 
 -- at most k decimal digits: those of n / 10, where n has more than one, and the last
 unfoldable pub digitsOf : ℕ → ℕ → List ℕ
@@ -29,17 +28,9 @@ hexDigits = 48 ∷ 49 ∷ 50 ∷ 51 ∷ 52 ∷ 53 ∷ 54 ∷ 55 ∷ 56 ∷ 57 �
 unfoldable pub hexOf : ℕ → ℕ
 hexOf x = getD hexDigits (x % 16) 48
 
--- "eight hexadecimal digits for an accepted show": two of them ..
-abbrev pub hexTwo : ℕ → ℕ → List ℕ
-hexTwo a b = hexOf a ∷ hexOf b ∷ []
-
--- .. four ..
-abbrev pub hexFour : ℕ → ℕ → ℕ → ℕ → List ℕ
-hexFour a b c d = hexTwo a b ++ hexTwo c d
-
--- .. all eight, the first pixel first
-abbrev pub hexEight : Eight → List ℕ
-hexEight x = hexFour (x .a) (x .b) (x .c) (x .d) ++ hexFour (x .e) (x .f) (x .g) (x .h)
+-- "eight hexadecimal digits for an accepted show": a digit for each pixel, the first pixel first
+abbrev pub hexesOf : List ℕ → List ℕ
+hexesOf l = map hexOf l
 
 -- `text` is written over `before` from `at` on, and `r` is the place after it
 pub record Put (before : List ℕ) (at : ℕ) (text after : List ℕ) (r : ℕ) : Type 0 where

@@ -3,7 +3,8 @@ ghost use mathlib.Core.Path.{_≡_};
 ghost use mathlib.Core.List.{[], _∷_};
 ghost use Prim.Native.Nat.{_+_, _<_, _≤_};
 ghost use lib.ListN.{length};
-ghost use Rattle.tape_machine.specs.Text.{decimalOf, fieldOf, hexOf, hexTwo, hexFour, hexEight, Put};
+ghost use Rattle.tape_machine.specs.Told.{pixelsOf};
+ghost use Rattle.tape_machine.specs.Text.{decimalOf, fieldOf, hexOf, hexesOf, Put};
 use tape_machine::Eight;
 
 pub fn put(out: &mut [u8], at: usize, byte: u8) -> usize
@@ -45,7 +46,7 @@ fn digit(pixel: u8) -> u8
 
 fn two_digits(a: u8, b: u8, out: &mut [u8], at: usize) -> usize
     requires { ⌜ at + 2 ≤ length (now out) ⌝ }
-    ensures { λ r. ⌜ Put (now (out .entry)) at (hexTwo a b) (now (out .exit)) r ⌝ }
+    ensures { λ r. ⌜ Put (now (out .entry)) at (hexesOf (a ∷ b ∷ [])) (now (out .exit)) r ⌝ }
 {
     let place = put(out, at, digit(a));
     put(out, place, digit(b))
@@ -53,7 +54,7 @@ fn two_digits(a: u8, b: u8, out: &mut [u8], at: usize) -> usize
 
 fn four_digits(a: u8, b: u8, c: u8, d: u8, out: &mut [u8], at: usize) -> usize
     requires { ⌜ at + 4 ≤ length (now out) ⌝ }
-    ensures { λ r. ⌜ Put (now (out .entry)) at (hexFour a b c d) (now (out .exit)) r ⌝ }
+    ensures { λ r. ⌜ Put (now (out .entry)) at (hexesOf (a ∷ b ∷ c ∷ d ∷ [])) (now (out .exit)) r ⌝ }
 {
     let place = two_digits(a, b, out, at);
     two_digits(c, d, out, place)
@@ -62,7 +63,7 @@ fn four_digits(a: u8, b: u8, c: u8, d: u8, out: &mut [u8], at: usize) -> usize
 // A show's eight pixels, a digit each.
 pub fn eight_digits(eight: Eight, out: &mut [u8], at: usize) -> usize
     requires { ⌜ at + 8 ≤ length (now out) ⌝ }
-    ensures { λ r. ⌜ Put (now (out .entry)) at (hexEight eight) (now (out .exit)) r ⌝ }
+    ensures { λ r. ⌜ Put (now (out .entry)) at (hexesOf (pixelsOf eight)) (now (out .exit)) r ⌝ }
 {
     let place = four_digits(eight.a, eight.b, eight.c, eight.d, out, at);
     four_digits(eight.e, eight.f, eight.g, eight.h, out, place)

@@ -2,8 +2,8 @@
 use Prim.Native.Nat.{ℕ, _<_, _≤_}
 use mathlib.Core.Path.{_≡_, refl, sym, _∙_}
 use lib.Dec.{eqb}
-use lib.ListN.{length}
-use Rattle.machine.specs.Memory.{Memory, shape, Shaped}
+use Rattle.machine.specs.declared.shape.Shape.{Shape}
+use Rattle.machine.specs.Memory.{Memory, shape, size, Sound}
 use Rattle.machine.specs.declared.answer.Refusal.{Refusal}
 use Rattle.machine.specs.declared.answer.DoneAnswer.{DoneAnswer}
 use Rattle.machine.specs.declared.answer.DoneAnswer.the-variants.{Done, Refused}
@@ -22,12 +22,12 @@ use Rattle.vram.specs.Stores.{storeCall}
 -- ---- a call, by what its judge answered
 
 -- what an inner function asks, where the judge accepts
-module _ (m : Memory) (o : ℕ) where
-  pub plane-asked : (p : ℕ) → 0 ≡ planeNumber (shape m) p o → Shaped m × ((o < length (m .p0)) × (p ≤ 3))
-  plane-asked p e = let h = plane-accepted m p o (sym e) in (h .shaped, (h .offset, h .plane))
+module _ (h : Shape) (o : ℕ) where
+  pub plane-asked : (p : ℕ) → 0 ≡ planeNumber h p o → Sound h × ((o < size h) × (p ≤ 3))
+  plane-asked p e = let a = plane-accepted h p o (sym e) in (a .shaped, (a .offset, a .plane))
 
-  pub offset-asked : 0 ≡ offsetNumber (shape m) o → Shaped m × (o < length (m .p0))
-  offset-asked e = let h = offset-accepted m o (sym e) in (h .shaped, h .offset)
+  pub offset-asked : 0 ≡ offsetNumber h o → Sound h × (o < size h)
+  offset-asked e = let a = offset-accepted h o (sym e) in (a .shaped, a .offset)
 
 -- the stores by plane, by what their judge answered
 module _ (m : Memory) (p o x : ℕ) {d : DoneAnswer} (j : doneSaid d .number ≡ planeNumber (shape m) p o) where
@@ -40,6 +40,6 @@ module _ (m : Memory) (p o x : ℕ) {d : DoneAnswer} (j : doneSaid d .number ≡
   pub store-done : (k : PlaneStore) (m′ : Memory) → d ≡ Done → x < 256 → m′ ≡ remade o (laid o (λ q. eqb q p) (λ q. combines k x (byte m q o)) m)
       → outcome (said 0 (one 0)) m′ ≡ vramStep m (storeCall k p o x)
   unfolding vramStep vramPlan valueOf
-  store-done Set m′ e h g = perform-done _ m m′ _ (as-told e j) (g ∙ store-one Set p o x unmasked m (plane-asked m o p (as-told e j) .1 .1) refl h) refl
-  store-done And m′ e h g = perform-done _ m m′ _ (as-told e j) (g ∙ store-one And p o x unmasked m (plane-asked m o p (as-told e j) .1 .1) refl h) refl
-  store-done Or m′ e h g = perform-done _ m m′ _ (as-told e j) (g ∙ store-one Or p o x unmasked m (plane-asked m o p (as-told e j) .1 .1) refl h) refl
+  store-done Set m′ e h g = perform-done _ m m′ _ (as-told e j) (g ∙ store-one Set p o x unmasked m (plane-asked (shape m) o p (as-told e j) .1 .1) refl h) refl
+  store-done And m′ e h g = perform-done _ m m′ _ (as-told e j) (g ∙ store-one And p o x unmasked m (plane-asked (shape m) o p (as-told e j) .1 .1) refl h) refl
+  store-done Or m′ e h g = perform-done _ m m′ _ (as-told e j) (g ∙ store-one Or p o x unmasked m (plane-asked (shape m) o p (as-told e j) .1 .1) refl h) refl

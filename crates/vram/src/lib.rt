@@ -97,17 +97,7 @@ pub fn write_u8(
 ) -> StoreAnswer
     ensures { λ r. ⌜ outcome (storeSaid r) (after p0 p1 p2 p3 picture) ≡ vramStep (before p0 p1 p2 p3 picture) (writeU8 plane (offset .0) byte) ⌝ }
 {
-    plane_store(
-        p0,
-        p1,
-        p2,
-        p3,
-        picture,
-        plane,
-        offset,
-        PlaneStore::Set,
-        byte,
-    )
+    plane_set(p0, p1, p2, p3, picture, plane, offset, byte)
 }
 
 // The pixel at a place.
@@ -243,17 +233,8 @@ pub fn plane_set(
 ) -> StoreAnswer
     ensures { λ r. ⌜ outcome (storeSaid r) (after p0 p1 p2 p3 picture) ≡ vramStep (before p0 p1 p2 p3 picture) (planeSet plane (offset .0) byte) ⌝ }
 {
-    plane_store(
-        p0,
-        p1,
-        p2,
-        p3,
-        picture,
-        plane,
-        offset,
-        PlaneStore::Set,
-        byte,
-    )
+    let kind = PlaneStore::Set;
+    plane_store(p0, p1, p2, p3, picture, plane, offset, kind, byte)
 }
 
 // The plane's byte `and` the one given, put in its place, and its offset's eight pixels remade.
@@ -269,17 +250,8 @@ pub fn plane_and(
 ) -> StoreAnswer
     ensures { λ r. ⌜ outcome (storeSaid r) (after p0 p1 p2 p3 picture) ≡ vramStep (before p0 p1 p2 p3 picture) (planeAnd plane (offset .0) byte) ⌝ }
 {
-    plane_store(
-        p0,
-        p1,
-        p2,
-        p3,
-        picture,
-        plane,
-        offset,
-        PlaneStore::And,
-        byte,
-    )
+    let kind = PlaneStore::And;
+    plane_store(p0, p1, p2, p3, picture, plane, offset, kind, byte)
 }
 
 // The plane's byte `or` the one given, put in its place, and its offset's eight pixels remade.
@@ -295,5 +267,6 @@ pub fn plane_or(
 ) -> StoreAnswer
     ensures { λ r. ⌜ outcome (storeSaid r) (after p0 p1 p2 p3 picture) ≡ vramStep (before p0 p1 p2 p3 picture) (planeOr plane (offset .0) byte) ⌝ }
 {
-    plane_store(p0, p1, p2, p3, picture, plane, offset, PlaneStore::Or, byte)
+    let kind = PlaneStore::Or;
+    plane_store(p0, p1, p2, p3, picture, plane, offset, kind, byte)
 }

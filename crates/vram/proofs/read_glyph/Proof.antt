@@ -1,13 +1,12 @@
 -- `read_glyph` answers as the machine: refused by `judge_offset`'s number, else plane 2's byte.
 use native.Mathlib.Omega.{arith}
-use mathlib.Core.Path.{refl}
+use mathlib.Core.Path.{refl, sym}
 use borrow.Author.Needs.{needs}
-use Rattle.machine.proofs.Laws.{perform-done, perform-refused, refusal-some}
+use Rattle.machine.proofs.Laws.{perform-done, perform-refused, refusal-some, offset-accepted}
 use Rattle.machine.specs.Step.{vramStep}
 use Rattle.machine.specs.Calls.{vramPlan}
 use Rattle.machine.specs.Deeds.{memoryAfter, valueOf}
 use Rattle.judges.proofs.Told.{as-told}
-use Rattle.judges.proofs.Shapes.{offset-within}
 use Rattle.vram.proofs.read_glyph.Statement.{statement}
 use Rattle.vram.proofs.read_glyph.Tie as tie
 
@@ -22,7 +21,7 @@ enum-told c = search needs
 
 shared-slice-read-t18 : tie.Need-shared-slice-read-t18
 shared-slice-read-t18 c =
-    let h = offset-within _ _ (as-told (c .before .enum-told .given .1) (c .before .before .before .judge-offset .ensures)) in omega arith
+    let h = offset-accepted _ _ (sym (as-told (c .before .enum-told .given .1) (c .before .before .before .judge-offset .ensures))) in omega arith
 
 returns : tie.Need-returns
 unfolding vramStep vramPlan valueOf

@@ -1,11 +1,10 @@
 -- `read_linear` answers as the machine: refused by `judge_place`'s number, else the pixel.
-use mathlib.Core.Path.{refl}
+use mathlib.Core.Path.{refl, sym}
 use borrow.Author.Needs.{needs}
-use Rattle.machine.proofs.Laws.{perform-done, perform-refused, refusal-some}
+use Rattle.machine.proofs.Laws.{perform-done, perform-refused, refusal-some, place-accepted}
 use Rattle.machine.specs.Step.{vramStep}
 use Rattle.machine.specs.Calls.{vramPlan}
 use Rattle.machine.specs.Deeds.{memoryAfter, valueOf}
-use Rattle.judges.proofs.Shapes.{place-within}
 use Rattle.judges.proofs.Told.{as-told}
 use Rattle.vram.proofs.read_linear.Statement.{statement}
 use Rattle.vram.proofs.read_linear.Tie as tie
@@ -21,7 +20,7 @@ enum-told c = search needs
 
 shared-slice-read-t18 : tie.Need-shared-slice-read-t18
 shared-slice-read-t18 c =
-    place-within _ _ (as-told (c .before .enum-told .given .1) (c .before .before .before .judge-place .ensures))
+    place-accepted _ _ (sym (as-told (c .before .enum-told .given .1) (c .before .before .before .judge-place .ensures))) .place
 
 returns : tie.Need-returns
 unfolding vramStep vramPlan valueOf

@@ -1,13 +1,12 @@
 -- `serialize_linear` answers as the machine: refused by `judge_shown`'s number with an empty part, else eight pixels from 8 times the offset on.
 use native.Mathlib.Omega.{arith}
 use native.Mathlib.Nat.{add-sub-cancel-left}
-use mathlib.Core.Path.{_∙_, refl}
+use mathlib.Core.Path.{_∙_, refl, sym}
 use borrow.Author.Needs.{needs}
-use Rattle.machine.proofs.Laws.{perform-done, perform-refused, refusal-some}
+use Rattle.machine.proofs.Laws.{perform-done, perform-refused, refusal-some, shown-accepted}
 use Rattle.machine.specs.Step.{vramStep}
 use Rattle.machine.specs.Calls.{vramPlan}
 use Rattle.machine.specs.Deeds.{memoryAfter, valueOf}
-use Rattle.judges.proofs.Shapes.{shown-within}
 use Rattle.judges.proofs.Told.{as-told}
 use Rattle.vram.proofs.serialize_linear.Statement.{statement}
 use Rattle.vram.proofs.serialize_linear.Tie as tie
@@ -35,11 +34,11 @@ enum-told c = search needs
 
 first-pixel-requires : tie.Need-first-pixel-requires
 first-pixel-requires c κs =
-    let h = shown-within _ _ (as-told (c .enum-told .given .1) (c .before .before .judge-shown .ensures)) in omega arith
+    let h = shown-accepted _ _ (sym (as-told (c .enum-told .given .1) (c .before .before .judge-shown .ensures))) in omega arith
 
 add-end : tie.Need-add-end
 add-end c =
-    let h = shown-within _ _ (as-told (c .before .enum-told .given .1) (c .before .before .before .judge-shown .ensures)) in omega arith
+    let h = shown-accepted _ _ (sym (as-told (c .before .enum-told .given .1) (c .before .before .before .judge-shown .ensures))) in omega arith
 
 sub-result-2 : tie.Need-sub-result-2
 sub-result-2 c = search needs
@@ -49,7 +48,7 @@ part-result-start-2 c = search needs
 
 part-result-end-2 : tie.Need-part-result-end-2
 part-result-end-2 c =
-    let h = shown-within _ _ (as-told (c .before .enum-told .given .1) (c .before .before .before .judge-shown .ensures)) in omega arith
+    let h = shown-accepted _ _ (sym (as-told (c .before .enum-told .given .1) (c .before .before .before .judge-shown .ensures))) in omega arith
 
 returns : tie.Need-returns
 unfolding vramStep vramPlan valueOf

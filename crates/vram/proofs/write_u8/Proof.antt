@@ -5,8 +5,8 @@ use Rattle.machine.specs.Calls.{vramPlan}
 use Rattle.vram.proofs.write_u8.Statement.{statement}
 use Rattle.vram.proofs.write_u8.Tie as tie
 
-plane-store-requires : tie.Need-plane-store-requires
-plane-store-requires c κs = search needs
+plane-set-requires : tie.Need-plane-set-requires
+plane-set-requires c κs = search needs
 
 same-length : tie.Need-same-length
 same-length c = search needs
@@ -26,13 +26,13 @@ same-length-5 c = search needs
 returns : tie.Need-returns
 unfolding vramStep vramPlan
 returns c =
-    c .before .before .before .before .before .before .before .before .before .before .plane-store .ensures
+    c .before .before .before .before .before .before .before .before .before .before .plane-set .ensures
 
 pub write-u8-spec : {M : Type 1} → statement M
 write-u8-spec =
     tie.close
     (tie.spec
-    plane-store-requires
+    plane-set-requires
     same-length
     same-length-2
     same-length-3

@@ -1,6 +1,6 @@
 -- `cpu_peek_u8` answers as the machine: refused by the judge's number, else plane 0's byte, and nothing moves.
 use Rattle.graphics_controller.proofs.Accesses.{judged, located, unlocated, peek-refused, peek-done}
-use Rattle.machine.specs.Memory.{mem}
+use Rattle.machine.specs.Memory.{mem, shape}
 use Rattle.machine.proofs.Laws.{refusal-some, access-accepted}
 use Rattle.machine.specs.Address.{a0}
 use mathlib.Core.Path.{sym}
@@ -35,7 +35,7 @@ shared-slice-read-t27 c =
     let a = c .before .before .before .before .before .before .before .before .before .before .before .before .before .before .before .args in
     let j = judged (a .gc .registers) (a .seq) (mem (a .p0 .now) (a .p1 .now) (a .p2 .now) (a .p3 .now) (a .picture .now)) (a .address) (a .page) (c .before .before .before .before .judge-address .result) _ _ _ _ (c .before .before .before .before .before .before .before .before .fits-both .ensures) (c .before .before .before .before .before .before .before .shaped .ensures) (c .before .before .before .before .before .before .memory-map .ensures) (c .before .before .before .before .before .chain-odd-even .ensures) (c .before .before .before .before .judge-address .ensures) in
     let l = located _ _ _ _ (a0 (a .address)) j _ _ (c .before .before .offset .given .1) in
-    let h = access-accepted (mem (a .p0 .now) (a .p1 .now) (a .p2 .now) (a .p3 .now) (a .picture .now)) (a .gc .registers) (a .seq) (a .address) (a .page) (sym (l .accepted)) in
+    let h = access-accepted (shape (mem (a .p0 .now) (a .p1 .now) (a .p2 .now) (a .p3 .now) (a .picture .now))) (a .gc .registers) (a .seq) (a .address) (a .page) (sym (l .accepted)) in
     omega (arith, l .offset, h .offset)
 
 returns : tie.Need-returns

@@ -35,7 +35,7 @@ write-planes-requires c κs =
     let a = c .before .before .before .before .before .before .before .before .before .before .before .before .before .before .before .before .before .before .before .args in
     let j = judged (a .gc .registers) (a .seq) (mem (a .p0 .now) (a .p1 .now) (a .p2 .now) (a .p3 .now) (a .picture .now)) (a .address) (a .page) (c .before .before .before .before .before .before .before .before .judge-address .result) _ _ _ _ (c .before .before .before .before .before .before .before .before .before .before .before .before .fits-both .ensures) (c .before .before .before .before .before .before .before .before .before .before .before .shaped .ensures) (c .before .before .before .before .before .before .before .before .before .before .memory-map .ensures) (c .before .before .before .before .before .before .before .before .before .chain-odd-even .ensures) (c .before .before .before .before .before .before .before .before .judge-address .ensures) in
     let l = located _ _ _ _ (a0 (a .address)) j _ _ (c .before .before .before .before .before .before .offset .given .1) in
-    let h = access-accepted (mem (a .p0 .now) (a .p1 .now) (a .p2 .now) (a .p3 .now) (a .picture .now)) (a .gc .registers) (a .seq) (a .address) (a .page) (sym (l .accepted)) in
+    let h = access-accepted (shape (mem (a .p0 .now) (a .p1 .now) (a .p2 .now) (a .p3 .now) (a .picture .now))) (a .gc .registers) (a .seq) (a .address) (a .page) (sym (l .accepted)) in
     (h .shaped, (omega (arith, l .offset, h .offset), (access-fits (a .gc .registers) (a .seq) (shape (mem (a .p0 .now) (a .p1 .now) (a .p2 .now) (a .p3 .now) (a .picture .now))) (a .address) (a .page) (l .accepted) .1, l .bit0)))
 
 write-done-requires : tie.Need-write-done-requires
