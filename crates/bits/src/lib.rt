@@ -1,1 +1,2 @@
-// Bytes as bits. All that this crate has stands in specs/ (definitions) and proofs/ (their laws): the crates above cite them.
+// Bytes as bits. What the crates above cite stands in specs/ (definitions) and proofs/ (their laws); one function makes a byte of a bit.
+pub mod inner;

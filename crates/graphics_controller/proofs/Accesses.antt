@@ -31,7 +31,7 @@ use Rattle.machine.specs.Deeds.{byte, latch, loaded, latchesAfter, memoryAfter,
 use Rattle.machine.specs.Calls.{refuse, fitsBoth, accessNumber, shows, showNumber, CpuPlan, counted, readCounter, writeCounter, readReply, writeDeed, cpuPlan, cpuRead, cpuPeek, cpuWrite, serialize}
 use Rattle.machine.specs.Step.{device, lifted, cpuPerform, cpuStep}
 use Rattle.machine.proofs.Laws.{both, refuse-0, sound-facts, AtOffset, answered-refused}
-use Rattle.judges.proofs.Held.{map-select-fits}
+use Rattle.record_judges.proofs.Held.{map-select-fits}
 use Rattle.judges.proofs.Windows.{left}
 use Rattle.graphics_controller.specs.Reads.{readByte}
 

@@ -10,13 +10,7 @@ ghost use Rattle.machine.specs.Calls.{counted, readCounter, writeCounter, cpuRe
 ghost use Rattle.machine.specs.Step.{device, cpuStep};
 ghost use Rattle.graphics_controller.specs.Reads.{readByte};
 use crate::visit::write_planes;
-use data_path::counted_read;
-use data_path::counted_write;
-use data_path::pixel_op_compare;
-use data_path::selected_plane;
-use judges::fits_both;
 use judges::judge_address;
-use judges::shaped;
 use machine::ByteAnswer;
 use machine::CpuByte;
 use machine::CpuStore;
@@ -27,6 +21,12 @@ use machine::ReadMode;
 use machine::Sequencer;
 use machine::Shape;
 use machine::StoreAnswer;
+use memory_judges::shaped;
+use read_path::counted_read;
+use read_path::pixel_op_compare;
+use read_path::selected_plane;
+use record_judges::fits_both;
+use write_path::counted_write;
 
 // The four planes' bytes at an offset.
 fn load(p0: &[u8], p1: &[u8], p2: &[u8], p3: &[u8], picture: &[u8], at: usize) -> [u8; 4]

@@ -39,10 +39,7 @@ pub fn serialize<'a, 'b, 'c, 'd, 'p, 'n>(
         }
         DoneAnswer::Done => {
             *number = 0;
-            let first = planes::inner::first_pixel(offset);
-            let place = first.0;
-            let end = place + 8;
-            &picture[place..end]
+            pixels::inner::eight(picture, offset)
         }
     }
 }

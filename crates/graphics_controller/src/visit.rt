@@ -12,13 +12,13 @@ ghost use Rattle.machine.specs.Address.{a0 as bit0};
 ghost use Rattle.machine.specs.Deeds.{latch, laid, memoryAfter};
 ghost use Rattle.machine.specs.Calls.{writeDeed};
 ghost use Rattle.graphics_controller.specs.Writes.{storesTo};
-use data_path::visited;
-use data_path::written;
 use machine::GraphicsController;
 use machine::GraphicsRegisters;
 use machine::Sequencer;
 use machine::WriteMode;
 use planes::PlaneStore;
+use write_path::visited;
+use write_path::written;
 
 // The planes that are stored, as four bits: visited, and let through by the mask.
 fn stored_planes(
@@ -31,7 +31,7 @@ fn stored_planes(
     requires { ⌜ (fitsSeq seq ≡ true) × (a0 ≡ bit0 address) ⌝ }
     ensures { λ r. ⌜ r ≡ storesTo registers seq address at ⌝ }
 {
-    visited(registers, address) & sequencer_registers::inner::mask(seq, at, a0)
+    visited(registers, address) & plane_masks::inner::mask(seq, at, a0)
 }
 
 // One plane's visit: its byte laid where it is stored, and no pixel moved.
@@ -111,7 +111,7 @@ pub fn write_planes(
     }
     let latches = gc.latches;
     let bytes = written(mode, registers, latches, byte);
-    let place = sequencer_registers::inner::stored_at(seq, at);
+    let place = plane_masks::inner::stored_at(seq, at);
     visit(p0, p1, p2, p3, picture, planes, bytes, place);
-    planes::inner::remake(p0, p1, p2, p3, picture, place);
+    pixels::inner::remake(p0, p1, p2, p3, picture, place);
 }

@@ -3,10 +3,10 @@ ghost use mathlib.Core.Path.{_≡_};
 ghost use Rattle.machine.specs.Answers.{outcome, mappedSaid};
 ghost use Rattle.machine.specs.Calls.{gcMapAddress};
 ghost use Rattle.machine.specs.Step.{graphicsStep};
-use judges::fits_gc;
 use judges::judge_address;
 use machine::GraphicsController;
 use machine::MappedAnswer;
+use record_judges::fits_gc;
 
 // Of any memory: every offset of 16 bits is within 65,536.
 pub fn map_address(gc: GraphicsController, address: usize, page: bool) -> MappedAnswer

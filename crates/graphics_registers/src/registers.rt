@@ -4,7 +4,6 @@ ghost use Rattle.machine.specs.Answers.{said, one, outcome, byteSaid, doneSaid,
 ghost use Rattle.machine.specs.Graphics.{gcOf, withAddress, withData, dataOf};
 ghost use Rattle.machine.specs.Calls.{isChain4, gcReset, gcChain, gcChain4, gcMemoryMap, gcOddEven, gcShiftMode, gcReadAddress, gcReadData, gcWriteAddress, gcWriteData};
 ghost use Rattle.machine.specs.Step.{graphicsStep};
-use judges::fits_gc;
 use machine::ByteAnswer;
 use machine::DoneAnswer;
 use machine::FlagAnswer;
@@ -17,6 +16,7 @@ use machine::OddEvenAnswer;
 use machine::Refusal;
 use machine::ShiftAnswer;
 use machine::ShiftMode;
+use record_judges::fits_gc;
 
 // Any record is taken; latches and counters go back to the start too.
 pub fn reset(gc: GraphicsController) -> GraphicsController

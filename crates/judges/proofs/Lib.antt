@@ -1,4 +1,1 @@
-pub mod Held
-pub mod Shapes
-pub mod Told
 pub mod Windows

@@ -2,8 +2,6 @@
 ghost use mathlib.Core.Path.{_≡_};
 ghost use Rattle.machine.specs.Answers.{doneSaid};
 ghost use Rattle.machine.specs.Calls.{shows as showsIn, showNumber};
-use crate::memory::shaped;
-use crate::records::fits_both;
 use machine::DoneAnswer;
 use machine::GraphicsRegisters;
 use machine::PlaneOffset;
@@ -11,6 +9,8 @@ use machine::Refusal;
 use machine::Sequencer;
 use machine::Shape;
 use machine::ShiftMode;
+use memory_judges::shaped;
+use record_judges::fits_both;
 
 // Whether a show is answered from the picture.
 fn shows(mode: ShiftMode) -> bool

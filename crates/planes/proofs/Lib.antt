@@ -1,2 +1,1 @@
-pub mod Pixels
 pub mod Stores

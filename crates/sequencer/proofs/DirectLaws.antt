@@ -16,7 +16,7 @@ use Rattle.machine.specs.Sequencer.{fitsSeq, inMask, storedAt}
 use Rattle.machine.specs.Calls.{refuse, planeNumber, storeOne, directPlan}
 use Rattle.machine.specs.Step.{directStep}
 use Rattle.machine.proofs.Laws.{refuse-0, AtPlane, plane-accepted, refusal-some, perform-done, perform-refused, stored-none}
-use Rattle.judges.proofs.Told.{as-told}
+use Rattle.memory_judges.proofs.Told.{as-told}
 use Rattle.planes.specs.Stores.{combines, storeBit}
 use Rattle.planes.proofs.Stores.{store-one}
 use Rattle.planes.specs.declared.kind.PlaneStore.{PlaneStore}
@@ -24,7 +24,7 @@ use Rattle.planes.specs.declared.kind.PlaneStore.the-variants.{Set, And, Or}
 use Rattle.sequencer.specs.declared.direct.PlaneRead.{PlaneRead}
 use Rattle.sequencer.specs.declared.direct.PlaneRead.the-variants.{Cpu, Gc}
 use Rattle.sequencer.specs.Direct.{readCall, readAt, storeCall}
-use Rattle.sequencer_registers.proofs.Laws.{gc-read-at-le}
+use Rattle.plane_masks.proofs.Laws.{gc-read-at-le}
 
 -- ---- where a read leads
 

@@ -20,17 +20,17 @@ use machine::Refusal;
 use machine::Sequencer;
 use machine::Shape;
 use machine::StoreAnswer;
+use plane_masks::inner;
 use planes::PlaneStore;
-use sequencer_registers::inner;
 
 // Refusals 6, 1, 4, 3: of a call that names a plane and an offset.
 fn judge_plane(seq: Sequencer, shape: Shape, plane: usize, offset: PlaneOffset) -> DoneAnswer
     ensures { λ r. ⌜ doneSaid r .number ≡ refuse (fitsSeq seq) 6 (planeNumber shape plane (offset .0)) ⌝ }
 {
-    if !judges::fits_seq(seq) {
+    if !record_judges::fits_seq(seq) {
         return DoneAnswer::Refused(Refusal::State);
     }
-    judges::judge_plane(shape, plane, offset)
+    memory_judges::judge_plane(shape, plane, offset)
 }
 
 // How a read by plane takes its offset: as it stands, or where chain-four leads.
@@ -144,7 +144,7 @@ pub fn read_linear(
 ) -> ByteAnswer
     ensures { λ r. ⌜ outcome (pixelSaid r) (before p0 p1 p2 p3 picture) ≡ directStep seq (before p0 p1 p2 p3 picture) (seqReadLinear (place .0)) ⌝ }
 {
-    if !judges::fits_seq(seq) {
+    if !record_judges::fits_seq(seq) {
         return ByteAnswer::Refused(Refusal::State);
     }
     vram::read_linear(p0, p1, p2, p3, picture, place)
@@ -163,7 +163,7 @@ pub fn serialize_linear<'a, 'b, 'c, 'd, 'p, 'n>(
 ) -> &'p [u8]
     ensures { λ r. ⌜ outcome (partSaid (now (number .exit)) (now r)) (before p0 p1 p2 p3 picture) ≡ directStep seq (before p0 p1 p2 p3 picture) (seqSerializeLinear (offset .0)) ⌝ }
 {
-    if !judges::fits_seq(seq) {
+    if !record_judges::fits_seq(seq) {
         *number = fields::refusal_number(Refusal::State);
         return &picture[0..0];
     }

@@ -1,5 +1,4 @@
-// The sequencer without its memory: its ports, its clock, and the plane masks that its registers make. The record stands in `machine`.
-pub mod inner;
+// The sequencer without its memory: its ports and its clock. The record stands in `machine`.
 mod registers;
 
 pub use registers::clock;

@@ -4,7 +4,6 @@ ghost use Rattle.machine.specs.Answers.{said, one, outcome, byteSaid, doneSaid,
 ghost use Rattle.machine.specs.Sequencer.{seqDataOf, withSeqData, divisorOf, clockOf, withMark};
 ghost use Rattle.machine.specs.Calls.{seqReset, seqClock, seqSetClockChangePending, seqPollClockChange, seqReadAddress, seqReadData, seqWriteAddress, seqWriteData};
 ghost use Rattle.machine.specs.Step.{sequencerStep};
-use judges::fits_seq;
 use machine::ByteAnswer;
 use machine::ClockAnswer;
 use machine::DoneAnswer;
@@ -14,6 +13,7 @@ use machine::Sequencer;
 use machine::SequencerDone;
 use machine::SequencerFlag;
 use machine::SequencerRegister;
+use record_judges::fits_seq;
 
 // The start record, whatever stood there before.
 pub fn reset(seq: Sequencer) -> Sequencer

@@ -12,7 +12,7 @@ use Rattle.machine.specs.Deeds.{byte, remade, laid, valueOf}
 use Rattle.machine.specs.Calls.{offsetNumber, planeNumber, unmasked, vramPlan}
 use Rattle.machine.specs.Step.{vramStep}
 use Rattle.machine.proofs.Laws.{perform-done, perform-refused, refusal-some, offset-accepted, plane-accepted}
-use Rattle.judges.proofs.Told.{as-told}
+use Rattle.memory_judges.proofs.Told.{as-told}
 use Rattle.planes.specs.declared.kind.PlaneStore.{PlaneStore}
 use Rattle.planes.specs.declared.kind.PlaneStore.the-variants.{Set, And, Or}
 use Rattle.planes.specs.Stores.{combines}

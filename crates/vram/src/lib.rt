@@ -32,7 +32,7 @@ pub fn read_glyph(
         p3: p3.len(),
         picture: picture.len(),
     };
-    match judges::judge_offset(shape, offset) {
+    match memory_judges::judge_offset(shape, offset) {
         DoneAnswer::Refused(x) => ByteAnswer::Refused(x),
         DoneAnswer::Done => {
             let at = offset.0;
@@ -75,7 +75,7 @@ pub fn read_u8(
         p3: p3.len(),
         picture: picture.len(),
     };
-    match judges::judge_plane(shape, plane, offset) {
+    match memory_judges::judge_plane(shape, plane, offset) {
         DoneAnswer::Refused(x) => ByteAnswer::Refused(x),
         DoneAnswer::Done => {
             let at = offset.0;
@@ -118,7 +118,7 @@ pub fn read_linear(
         p3: p3.len(),
         picture: picture.len(),
     };
-    match judges::judge_place(shape, place) {
+    match memory_judges::judge_place(shape, place) {
         DoneAnswer::Refused(x) => ByteAnswer::Refused(x),
         DoneAnswer::Done => {
             let at = place.0;
@@ -146,17 +146,14 @@ pub fn serialize_linear<'a, 'b, 'c, 'd, 'p, 'n>(
         p3: p3.len(),
         picture: picture.len(),
     };
-    match judges::judge_shown(shape, offset) {
+    match memory_judges::judge_shown(shape, offset) {
         DoneAnswer::Refused(x) => {
             *number = fields::refusal_number(x);
             &picture[0..0]
         }
         DoneAnswer::Done => {
             *number = 0;
-            let first = planes::inner::first_pixel(offset);
-            let place = first.0;
-            let end = place + 8;
-            &picture[place..end]
+            pixels::inner::eight(picture, offset)
         }
     }
 }
@@ -179,11 +176,11 @@ pub fn deplane(
         p3: p3.len(),
         picture: picture.len(),
     };
-    match judges::judge_offset(shape, offset) {
+    match memory_judges::judge_offset(shape, offset) {
         DoneAnswer::Refused(x) => DoneAnswer::Refused(x),
         DoneAnswer::Done => {
             let at = offset.0;
-            planes::inner::remake(p0, p1, p2, p3, picture, at);
+            pixels::inner::remake(p0, p1, p2, p3, picture, at);
             DoneAnswer::Done
         }
     }
@@ -210,7 +207,7 @@ fn plane_store(
         p3: p3.len(),
         picture: picture.len(),
     };
-    match judges::judge_plane(shape, plane, offset) {
+    match memory_judges::judge_plane(shape, plane, offset) {
         DoneAnswer::Refused(x) => StoreAnswer::Refused(x),
         DoneAnswer::Done => {
             let at = offset.0;

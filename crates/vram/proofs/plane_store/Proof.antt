@@ -1,7 +1,7 @@
 -- `plane_store` judges and then stores: the machine's store of each kind, by `store-refused` and `store-done`.
 use borrow.Author.Needs.{needs}
 use Rattle.machine.specs.Memory.{mem}
-use Rattle.judges.proofs.Told.{as-told}
+use Rattle.memory_judges.proofs.Told.{as-told}
 use Rattle.vram.proofs.Laws.{plane-asked, store-refused, store-done}
 use Rattle.vram.proofs.plane_store.Statement.{statement}
 use Rattle.vram.proofs.plane_store.Tie as tie

@@ -1,13 +1,12 @@
 -- `serialize_linear` answers as the machine: refused by `judge_shown`'s number with an empty part, else eight pixels from 8 times the offset on.
 use native.Mathlib.Omega.{arith}
-use native.Mathlib.Nat.{add-sub-cancel-left}
 use mathlib.Core.Path.{_∙_, refl, sym}
 use borrow.Author.Needs.{needs}
 use Rattle.machine.proofs.Laws.{perform-done, perform-refused, refusal-some, shown-accepted}
 use Rattle.machine.specs.Step.{vramStep}
 use Rattle.machine.specs.Calls.{vramPlan}
 use Rattle.machine.specs.Deeds.{memoryAfter, valueOf}
-use Rattle.judges.proofs.Told.{as-told}
+use Rattle.memory_judges.proofs.Told.{as-told}
 use Rattle.vram.proofs.serialize_linear.Statement.{statement}
 use Rattle.vram.proofs.serialize_linear.Tie as tie
 
@@ -32,23 +31,9 @@ part-result-end c = search needs
 enum-told : tie.Need-enum-told
 enum-told c = search needs
 
-first-pixel-requires : tie.Need-first-pixel-requires
-first-pixel-requires c κs =
-    let h = shown-accepted _ _ (sym (as-told (c .enum-told .given .1) (c .before .before .judge-shown .ensures))) in omega arith
-
-add-end : tie.Need-add-end
-add-end c =
-    let h = shown-accepted _ _ (sym (as-told (c .before .enum-told .given .1) (c .before .before .before .judge-shown .ensures))) in omega arith
-
-sub-result-2 : tie.Need-sub-result-2
-sub-result-2 c = search needs
-
-part-result-start-2 : tie.Need-part-result-start-2
-part-result-start-2 c = search needs
-
-part-result-end-2 : tie.Need-part-result-end-2
-part-result-end-2 c =
-    let h = shown-accepted _ _ (sym (as-told (c .before .enum-told .given .1) (c .before .before .before .judge-shown .ensures))) in omega arith
+eight-requires : tie.Need-eight-requires
+eight-requires c κs =
+    let h = shown-accepted _ _ (sym (as-told (c .enum-told .given .1) (c .before .before .judge-shown .ensures))) in (omega arith, omega arith)
 
 returns : tie.Need-returns
 unfolding vramStep vramPlan valueOf
@@ -58,7 +43,7 @@ returns c =
 returns-2 : tie.Need-returns-2
 unfolding vramStep vramPlan memoryAfter valueOf
 returns-2 c =
-    perform-done _ _ _ _ (as-told (c .before .before .enum-told .given .1) (c .before .before .before .before .judge-shown .ensures)) refl (rw (add-sub-cancel-left, c .before .first-pixel .ensures))
+    perform-done _ _ _ _ (as-told (c .before .enum-told .given .1) (c .before .before .before .judge-shown .ensures)) refl (rw (c .eight .ensures))
 
 pub serialize-linear-spec : {M : Type 1} → statement M
 serialize-linear-spec =
@@ -71,10 +56,6 @@ serialize-linear-spec =
     part-result-start
     part-result-end
     enum-told
-    first-pixel-requires
-    add-end
-    sub-result-2
-    part-result-start-2
-    part-result-end-2
+    eight-requires
     returns
     returns-2)

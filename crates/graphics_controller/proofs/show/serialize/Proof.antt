@@ -1,11 +1,10 @@
 -- `serialize` answers as the machine: an empty part by the judge's number, else eight pixels from 8 times the offset on.
-use native.Mathlib.Nat.{add-sub-cancel-left}
 use native.Mathlib.Omega.{arith}
 use mathlib.Core.Path.{_∙_}
 use borrow.Author.Needs.{needs}
 use Rattle.machine.proofs.Laws.{refusal-some}
 use Rattle.machine.specs.Memory.{mem}
-use Rattle.judges.proofs.Told.{as-told}
+use Rattle.memory_judges.proofs.Told.{as-told}
 use Rattle.graphics_controller.proofs.Accesses.{show-accepted, show-refused, show-done}
 use Rattle.graphics_controller.proofs.show.serialize.Statement.{statement}
 use Rattle.graphics_controller.proofs.show.serialize.Tie as tie
@@ -31,23 +30,9 @@ part-result-end c = search needs
 enum-told : tie.Need-enum-told
 enum-told c = search needs
 
-first-pixel-requires : tie.Need-first-pixel-requires
-first-pixel-requires c κs =
-    let h = show-accepted (c .before .before .before .before .before .before .before .before .args .gc .registers) (c .before .before .before .before .before .before .before .before .args .seq) (mem (c .before .before .before .before .before .before .before .before .args .p0 .now) (c .before .before .before .before .before .before .before .before .args .p1 .now) (c .before .before .before .before .before .before .before .before .args .p2 .now) (c .before .before .before .before .before .before .before .before .args .p3 .now) (c .before .before .before .before .before .before .before .before .args .picture .now)) _ (as-told (c .enum-told .given .1) (c .before .before .judge-show .ensures)) in omega arith
-
-add-end : tie.Need-add-end
-add-end c =
-    let h = show-accepted (c .before .before .before .before .before .before .before .before .before .args .gc .registers) (c .before .before .before .before .before .before .before .before .before .args .seq) (mem (c .before .before .before .before .before .before .before .before .before .args .p0 .now) (c .before .before .before .before .before .before .before .before .before .args .p1 .now) (c .before .before .before .before .before .before .before .before .before .args .p2 .now) (c .before .before .before .before .before .before .before .before .before .args .p3 .now) (c .before .before .before .before .before .before .before .before .before .args .picture .now)) _ (as-told (c .before .enum-told .given .1) (c .before .before .before .judge-show .ensures)) in omega arith
-
-sub-result-2 : tie.Need-sub-result-2
-sub-result-2 c = search needs
-
-part-result-start-2 : tie.Need-part-result-start-2
-part-result-start-2 c = search needs
-
-part-result-end-2 : tie.Need-part-result-end-2
-part-result-end-2 c =
-    let h = show-accepted (c .before .before .before .before .before .before .before .before .before .args .gc .registers) (c .before .before .before .before .before .before .before .before .before .args .seq) (mem (c .before .before .before .before .before .before .before .before .before .args .p0 .now) (c .before .before .before .before .before .before .before .before .before .args .p1 .now) (c .before .before .before .before .before .before .before .before .before .args .p2 .now) (c .before .before .before .before .before .before .before .before .before .args .p3 .now) (c .before .before .before .before .before .before .before .before .before .args .picture .now)) _ (as-told (c .before .enum-told .given .1) (c .before .before .before .judge-show .ensures)) in omega arith
+eight-requires : tie.Need-eight-requires
+eight-requires c κs =
+    let h = show-accepted (c .before .before .before .before .before .before .before .before .args .gc .registers) (c .before .before .before .before .before .before .before .before .args .seq) (mem (c .before .before .before .before .before .before .before .before .args .p0 .now) (c .before .before .before .before .before .before .before .before .args .p1 .now) (c .before .before .before .before .before .before .before .before .args .p2 .now) (c .before .before .before .before .before .before .before .before .args .p3 .now) (c .before .before .before .before .before .before .before .before .args .picture .now)) _ (as-told (c .enum-told .given .1) (c .before .before .judge-show .ensures)) in (omega arith, omega arith)
 
 returns : tie.Need-returns
 returns c =
@@ -55,7 +40,7 @@ returns c =
 
 returns-2 : tie.Need-returns-2
 returns-2 c =
-    show-done (c .before .before .before .before .before .before .before .before .before .before .args .gc) (c .before .before .before .before .before .before .before .before .before .before .args .seq) (mem (c .before .before .before .before .before .before .before .before .before .before .args .p0 .now) (c .before .before .before .before .before .before .before .before .before .before .args .p1 .now) (c .before .before .before .before .before .before .before .before .before .before .args .p2 .now) (c .before .before .before .before .before .before .before .before .before .before .args .p3 .now) (c .before .before .before .before .before .before .before .before .before .before .args .picture .now)) _ _ (as-told (c .before .before .enum-told .given .1) (c .before .before .before .before .judge-show .ensures)) (rw (add-sub-cancel-left, c .before .first-pixel .ensures))
+    show-done (c .before .before .before .before .before .before .before .before .before .args .gc) (c .before .before .before .before .before .before .before .before .before .args .seq) (mem (c .before .before .before .before .before .before .before .before .before .args .p0 .now) (c .before .before .before .before .before .before .before .before .before .args .p1 .now) (c .before .before .before .before .before .before .before .before .before .args .p2 .now) (c .before .before .before .before .before .before .before .before .before .args .p3 .now) (c .before .before .before .before .before .before .before .before .before .args .picture .now)) _ _ (as-told (c .before .enum-told .given .1) (c .before .before .before .judge-show .ensures)) (c .eight .ensures)
 
 pub serialize-spec : {M : Type 1} → statement M
 serialize-spec =
@@ -68,10 +53,6 @@ serialize-spec =
     part-result-start
     part-result-end
     enum-told
-    first-pixel-requires
-    add-end
-    sub-result-2
-    part-result-start-2
-    part-result-end-2
+    eight-requires
     returns
     returns-2)

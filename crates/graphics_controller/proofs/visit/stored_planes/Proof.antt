@@ -6,7 +6,7 @@ use borrow.Author.Needs.{needs}
 use Rattle.machine.specs.Address.{a0}
 use Rattle.machine.specs.Sequencer.{inMask}
 use Rattle.machine.specs.DataPath.{visits}
-use Rattle.sequencer_registers.specs.Mask.{maskOf}
+use Rattle.plane_masks.specs.Mask.{maskOf}
 use Rattle.graphics_controller.specs.Writes.{stores, storesTo}
 use Rattle.graphics_controller.proofs.Planes.{tests-shared}
 use Rattle.graphics_controller.proofs.visit.stored_planes.Statement.{statement}

@@ -8,7 +8,7 @@ use Rattle.machine.specs.declared.graphics.WriteMode.{WriteMode}
 use Rattle.machine.specs.Calls.{writeDeed}
 use Rattle.machine.specs.Deeds.{remade, memoryAfter}
 use Rattle.machine.specs.Memory.{mem}
-use Rattle.sequencer_registers.proofs.Laws.{stored-at-le}
+use Rattle.plane_masks.proofs.Laws.{stored-at-le}
 use Rattle.graphics_controller.proofs.Planes.{write-counts, write-none, write-some}
 use types.Run.{OneOf}
 use Rattle.graphics_controller.proofs.visit.write_planes.Statement.{statement}
