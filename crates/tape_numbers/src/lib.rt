@@ -1,7 +1,7 @@
-// A tape's numbers: groups of seven bits, low group first, the top bit set when more follow.
+// A tape's numbers, read from a slice: groups of seven bits, low group first, the top bit set when more follow.
 ghost use mathlib.Core.Path.{_≡_};
 ghost use lib.ListN.{drop};
-ghost use Rattle.tape_records.specs.Numbers.{numberOf};
+ghost use Rattle.tape_numbers.specs.Numbers.{numberOf};
 
 pub enum Number {
     // The number, and how many bytes it took.

@@ -4,8 +4,8 @@ use mathlib.Core.Bool.{Bool, true, false}
 use mathlib.Core.List.{List, [], _∷_}
 use lib.Dec.{eqb, ltb, leb}
 use Rattle.bits.specs.Bit.{pick}
-use Rattle.tape_records.specs.declared.number.Number.{Number}
-use Rattle.tape_records.specs.declared.number.Number.the-variants.{Value, Ended, Damaged}
+use Rattle.tape_numbers.specs.declared.Number.{Number}
+use Rattle.tape_numbers.specs.declared.Number.the-variants.{Value, Ended, Damaged}
 
 -- one more than the greatest number of a tape; bound and width of a number are this one parameter, a limit
 abbrev pub limit32 : ℕ

@@ -11,9 +11,9 @@ use lib.ListN.{length, drop, getD, drop-of-length-le}
 use lib.Seq.{drop-cons}
 use borrow.Author.Tests.{le-ltb, lt-ltb, le-leb, lt-leb, eq-eqb, ne-eqb}
 use Rattle.bits.specs.Bit.{pick}
-use Rattle.tape_records.specs.declared.number.Number.{Number}
-use Rattle.tape_records.specs.declared.number.Number.the-variants.{Value, Ended, Damaged}
-use Rattle.tape_records.specs.Numbers.{onTop, lastGroup, groups, numberOf}
+use Rattle.tape_numbers.specs.declared.Number.{Number}
+use Rattle.tape_numbers.specs.declared.Number.the-variants.{Value, Ended, Damaged}
+use Rattle.tape_numbers.specs.Numbers.{onTop, lastGroup, groups, numberOf}
 
 -- the groups from `from` to `at` make `value`, the next one weighs `weight` and has to be below `left`
 pub record Held (s : List ℕ) (from limit at value weight left : ℕ) : Type 0 where

@@ -3,9 +3,9 @@ use Prim.Native.Nat.{_-_}
 use borrow.Author.Needs.{needs}
 use lib.ListN.{length}
 use native.Mathlib.Omega.{arith}
-use Rattle.tape_records.proofs.Reading.{Held, at-first, at-end, too-large, padded, nought, whole, fits, heavier, below, again}
-use Rattle.tape_records.proofs.number.read_number.Statement.{statement}
-use Rattle.tape_records.proofs.number.read_number.Tie as tie
+use Rattle.tape_numbers.proofs.Reading.{Held, at-first, at-end, too-large, padded, nought, whole, fits, heavier, below, again}
+use Rattle.tape_numbers.proofs.read_number.Statement.{statement}
+use Rattle.tape_numbers.proofs.read_number.Tie as tie
 
 abbrev Inv-loop : tie.InvT-loop
 Inv-loop tape from limit at₀ value₀ weight₀ left₀ at value weight left = Held tape from limit at value weight left

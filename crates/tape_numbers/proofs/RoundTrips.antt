@@ -10,10 +10,10 @@ use lib.Dec.{eqb, ltb, leb, lit<}
 use lib.ListN.{length, take}
 use borrow.Author.Tests.{lt-ltb, le-ltb, lt-leb, ne-eqb, ltb-true, ltb-false, leb-false, eqb-true, eqb-false}
 use Rattle.bits.specs.Bit.{pick}
-use Rattle.tape_records.specs.declared.number.Number.{Number}
-use Rattle.tape_records.specs.declared.number.Number.the-variants.{Value, Ended, Damaged}
-use Rattle.tape_records.specs.Numbers.{limit32, onTop, lastGroup, groups, numberOf, written}
-use Rattle.tape_records.proofs.Sizes.{either}
+use Rattle.tape_numbers.specs.declared.Number.{Number}
+use Rattle.tape_numbers.specs.declared.Number.the-variants.{Value, Ended, Damaged}
+use Rattle.tape_numbers.specs.Numbers.{limit32, onTop, lastGroup, groups, numberOf, written}
+use Rattle.tape_numbers.proofs.Sizes.{either}
 
 -- what a group may be: any number where none went before, else none that is 0
 abbrev Allowed : Bool → ℕ → Type 0
