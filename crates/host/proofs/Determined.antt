@@ -17,16 +17,16 @@ use Rattle.machine.specs.Memory.{Memory, lent}
 use Rattle.machine.specs.Answers.{one, Outcome, outcome}
 use Rattle.machine.specs.Calls.{gcReset, gcWriteAddress, gcWriteData, cpuRead, cpuWrite}
 use Rattle.machine.specs.Step.{lifted, graphicsStep}
+use Rattle.host_answers.specs.declared.Answer.{Answer}
+use Rattle.host_answers.specs.declared.Clock.{Clock}
+use Rattle.host_answers.specs.declared.Mapped.{Mapped}
+use Rattle.host_answers.specs.declared.Shown.{Shown}
+use Rattle.host_answers.specs.Answers.{answerSaid}
+use Rattle.host_answers.proofs.Told.{answer-is, pixel-is, clock-is, mapped-is}
 use Rattle.host_records.specs.declared.record.ControllerRecord.{ControllerRecord}
 use Rattle.host_records.specs.declared.record.SequencerRecord.{SequencerRecord}
-use Rattle.host_records.specs.declared.answer.Answer.{Answer}
-use Rattle.host_records.specs.declared.answer.Clock.{Clock}
-use Rattle.host_records.specs.declared.answer.Mapped.{Mapped}
-use Rattle.host_records.specs.declared.answer.Shown.{Shown}
-use Rattle.host_records.specs.declared.answer.SequencerAnswer.{SequencerAnswer}
+use Rattle.host_records.specs.declared.left.SequencerAnswer.{SequencerAnswer}
 use Rattle.host_records.specs.Records.{controllerOf, recordOf}
-use Rattle.host_records.specs.Answers.{answerSaid}
-use Rattle.host_records.proofs.Told.{answer-is, pixel-is, clock-is, mapped-is}
 use Rattle.host.specs.Hosted.{Held, held, graphicsHosted, cpuHosted}
 use Rattle.host.proofs.planes.iddesmar_vram_read_u8.Reads as vram-read-u8
 use Rattle.host.proofs.planes.iddesmar_vram_read_u8.Kinds as vram-read-u8-kinds

@@ -14,12 +14,12 @@ use Rattle.machine.specs.Address.{offset}
 use Rattle.machine.specs.Deeds.{latchesAfter, memoryAfter, valueOf}
 use Rattle.machine.specs.Calls.{SequencerCall, DirectCall, GraphicsCall, CpuCall, cpuWrite, CpuPlan, cpuPlan, writeDeed}
 use Rattle.machine.specs.Step.{Device, device, lifted, cpuAfter, cpuPerform, sequencerStep, directStep, graphicsStep, cpuStep}
+use Rattle.host_answers.specs.declared.Shown.{Shown}
+use Rattle.host_answers.specs.Answers.{shownOf}
 use Rattle.host_records.specs.declared.record.StatsRecord.{StatsRecord}
 use Rattle.host_records.specs.declared.record.ControllerRecord.{ControllerRecord}
 use Rattle.host_records.specs.declared.record.SequencerRecord.{SequencerRecord}
-use Rattle.host_records.specs.declared.answer.Shown.{Shown}
 use Rattle.host_records.specs.Records.{knownGc, knownSeq, known, controllerOf, recordOf, sequencerOf, sequencerRecordOf, statsRecordOf, withStats}
-use Rattle.host_records.specs.Answers.{shownOf}
 use Rattle.host_records.proofs.Laws.{record-back, sequencer-back, known-gc}
 use Rattle.host.specs.Hosted.{held, heldOf, sequencerHosted, directHosted, graphicsHosted, cpuHosted}
 

@@ -8,8 +8,8 @@ use denote.Ref.{RefT}
 use denote.Struct.Laws as LL
 use Rattle.host_records.specs.declared.record.ControllerRecord.{ControllerRecord}
 use Rattle.host_records.specs.declared.record.SequencerRecord.{SequencerRecord}
-use Rattle.host_records.specs.declared.answer.ControllerAnswer.{ControllerAnswer}
-use Rattle.host_records.specs.declared.answer.StatsAnswer.{StatsAnswer}
+use Rattle.host_records.specs.declared.left.ControllerAnswer.{ControllerAnswer}
+use Rattle.host_records.specs.declared.left.StatsAnswer.{StatsAnswer}
 use Rattle.host_records.specs.Records.{withStats}
 use Rattle.host_records.proofs.record.StatsRecord as T
 use Rattle.host_records.proofs.record.StatsRecord.Laws as T′
@@ -17,12 +17,12 @@ use Rattle.host_records.proofs.record.ControllerRecord as G
 use Rattle.host_records.proofs.record.ControllerRecord.Laws as G′
 use Rattle.host_records.proofs.record.SequencerRecord as S
 use Rattle.host_records.proofs.record.SequencerRecord.Laws as S′
-use Rattle.host_records.proofs.answer.Answer as N
-use Rattle.host_records.proofs.answer.Answer.Laws as N′
-use Rattle.host_records.proofs.answer.ControllerAnswer as R
-use Rattle.host_records.proofs.answer.ControllerAnswer.Laws as R′
-use Rattle.host_records.proofs.answer.StatsAnswer as C
-use Rattle.host_records.proofs.answer.StatsAnswer.Laws as C′
+use Rattle.host_answers.proofs.Answer as N
+use Rattle.host_answers.proofs.Answer.Laws as N′
+use Rattle.host_records.proofs.left.ControllerAnswer as R
+use Rattle.host_records.proofs.left.ControllerAnswer.Laws as R′
+use Rattle.host_records.proofs.left.StatsAnswer as C
+use Rattle.host_records.proofs.left.StatsAnswer.Laws as C′
 
 -- a lent slice of bytes
 abbrev pub Bytes : Type 0

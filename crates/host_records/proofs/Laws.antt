@@ -1,10 +1,8 @@
--- What the records' proofs cite: registers by number and back, records of known number as they are, eight entries as a list.
+-- What the records' proofs cite: registers by number and back, and records of known number as they are.
 use Prim.Native.Nat.{ℕ, zero, suc, _≤_}
 use native.Mathlib.Omega.{arith}
 use mathlib.Core.Path.{_≡_, refl, sym}
 use mathlib.Core.Bool.{true}
-use mathlib.Core.List.{List, [], _∷_}
-use lib.ListN.{length, getD}
 use borrow.Author.Tests.{leb-true}
 use Rattle.machine.specs.declared.graphics.GraphicsRegister.the-variants.{BitMask}
 use Rattle.machine.specs.Graphics.{selects, registerNumber}
@@ -49,16 +47,3 @@ sequencer-back s e = rw (seq-number-back (s .«register_selected») (leb-true _ 
 
 pub known-gc : (g : ControllerRecord) (s : SequencerRecord) → true ≡ known g s → true ≡ knownGc g
 known-gc g s e = sym (both (knownGc g) (knownSeq s) (sym e) .0)
-
--- eight entries are the list
-pub eight : (l : List ℕ) → length l ≡ 8 → getD l 0 0 ∷ getD l 1 0 ∷ getD l 2 0 ∷ getD l 3 0 ∷ getD l 4 0 ∷ getD l 5 0 ∷ getD l 6 0 ∷ getD l 7 0 ∷ [] ≡ l
-eight [] h = absurd (omega (arith, h))
-eight (x0 ∷ []) h = absurd (omega (arith, h))
-eight (x0 ∷ x1 ∷ []) h = absurd (omega (arith, h))
-eight (x0 ∷ x1 ∷ x2 ∷ []) h = absurd (omega (arith, h))
-eight (x0 ∷ x1 ∷ x2 ∷ x3 ∷ []) h = absurd (omega (arith, h))
-eight (x0 ∷ x1 ∷ x2 ∷ x3 ∷ x4 ∷ []) h = absurd (omega (arith, h))
-eight (x0 ∷ x1 ∷ x2 ∷ x3 ∷ x4 ∷ x5 ∷ []) h = absurd (omega (arith, h))
-eight (x0 ∷ x1 ∷ x2 ∷ x3 ∷ x4 ∷ x5 ∷ x6 ∷ []) h = absurd (omega (arith, h))
-eight (x0 ∷ x1 ∷ x2 ∷ x3 ∷ x4 ∷ x5 ∷ x6 ∷ x7 ∷ []) h = refl
-eight (x0 ∷ x1 ∷ x2 ∷ x3 ∷ x4 ∷ x5 ∷ x6 ∷ x7 ∷ x8 ∷ l) h = absurd (omega (arith, h))

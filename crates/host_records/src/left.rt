@@ -3,23 +3,41 @@ ghost use mathlib.Core.Path.{_≡_};
 ghost use Rattle.machine.specs.Answers.{said, one, outcome, storeSaid, doneSaid, flagSaid};
 ghost use Rattle.machine.specs.Step.{lifted};
 ghost use Rattle.host_records.specs.Records.{statsRecordOf, recordOf, sequencerRecordOf};
-ghost use Rattle.host_records.specs.Answers.{answerSaid};
-use crate::answer::ControllerAnswer;
-use crate::answer::SequencerAnswer;
-use crate::answer::StatsAnswer;
-use crate::answer::of_done;
-use crate::answer::of_flag;
-use crate::answer::of_store;
-use crate::answer::unknown;
+ghost use Rattle.host_answers.specs.Answers.{answerSaid};
 use crate::record::ControllerRecord;
 use crate::record::SequencerRecord;
+use crate::record::StatsRecord;
 use crate::record::of_controller;
 use crate::record::of_sequencer;
 use crate::record::of_stats;
+use host_answers::Answer;
+use host_answers::of_done;
+use host_answers::of_flag;
+use host_answers::of_store;
+use host_answers::unknown;
 use machine::CpuStore;
 use machine::GraphicsDone;
 use machine::SequencerDone;
 use machine::SequencerFlag;
+
+// An answer and the sequencer's record as it is left.
+#[repr(C)]
+pub struct SequencerAnswer {
+    pub answer: Answer,
+    pub seq: SequencerRecord,
+}
+
+// An answer and the controller's record as it is left.
+pub struct ControllerAnswer {
+    pub answer: Answer,
+    pub gc: ControllerRecord,
+}
+
+// An answer and the counters as they are left.
+pub struct StatsAnswer {
+    pub answer: Answer,
+    pub stats: StatsRecord,
+}
 
 pub fn unknown_sequencer(seq: SequencerRecord) -> SequencerAnswer
     ensures { λ r. ⌜ outcome (answerSaid (r .answer)) (r .seq) ≡ outcome (said 6 (one 0)) seq ⌝ }

@@ -1,4 +1,3 @@
-// The records that a host keeps, of numbers and flags, read as the machine's and back, and the machine's answers in numbers. No call is performed here.
-pub mod answer;
+// The records that a host keeps, of numbers and flags, read as the machine's and back, and an answer with the record that a call leaves. No call is performed here.
 pub mod left;
 pub mod record;

@@ -12,12 +12,12 @@ use Rattle.machine.specs.DataPath.{dataBit, combined, masked, writtenBit, visit
 use Rattle.machine.specs.Deeds.{loaded, pixelOf, remade, storedByte, laid, stored, agrees, compared, latchesAfter, memoryAfter, valueOf as repliedValue}
 use Rattle.machine.specs.Calls.{seqNumberOf, seqValue, seqNext, gcNumberOf, gcValue, gcNext, accessNumber, showNumber, counted, readReply, writeDeed, cpuPlan}
 use Rattle.machine.specs.Step.{sequencerStep, graphicsStep, cpuStep, State, state, step}
+use Rattle.tape_numbers.specs.Numbers.{onTop, lastGroup, groups, numberOf}
 use Rattle.tape_records.specs.declared.records.Command.the-variants.{Reset}
 use Rattle.tape_records.specs.declared.records.Fault.the-variants.{Range}
 use Rattle.tape_records.specs.declared.records.Operation.the-variants.{Was}
 use Rattle.tape_records.specs.declared.records.Record.{Record}
 use Rattle.tape_records.specs.declared.records.Record.the-variants.{Whole, Broken}
-use Rattle.tape_records.specs.Numbers.{onTop, lastGroup, groups, numberOf}
 use Rattle.tape_records.specs.Records.{arguments, greatestOf, judged, argumentOf, commandOf, next, thirdOf, secondOf, firstOf, started, recordOf}
 use Rattle.machine.specs.declared.answer.Refusal.the-variants.{Room}
 use Rattle.machine.specs.declared.answer.DoneAnswer.the-variants.{Refused}

@@ -2,12 +2,12 @@
 use Prim.Native.Nat.{ℕ}
 use mathlib.Core.Path.{_≡_, refl}
 use mathlib.Core.List.{List, [], _∷_}
+use Rattle.tape_numbers.specs.Numbers.{onTop, lastGroup, groups, numberOf}
 use Rattle.tape_records.specs.declared.records.Command.the-variants.{Show}
 use Rattle.tape_records.specs.declared.records.Fault.the-variants.{Open, Damage, Range}
 use Rattle.tape_records.specs.declared.records.Operation.the-variants.{Unread, Was}
 use Rattle.tape_records.specs.declared.records.Record.{Record}
 use Rattle.tape_records.specs.declared.records.Record.the-variants.{Whole, Broken}
-use Rattle.tape_records.specs.Numbers.{onTop, lastGroup, groups, numberOf}
 use Rattle.tape_records.specs.Records.{arguments, greatestOf, judged, argumentOf, commandOf, next, thirdOf, secondOf, firstOf, started, recordOf}
 
 -- the record at the start of a tape, with every definition open

@@ -3,17 +3,9 @@ use mathlib.Core.Path.{_≡_, sym, _∙_}
 use contract.Lifetimes.{Lfts}
 use denote.Triple.Clauses.{AtExit}
 use borrow.Fn.Kinds.{Dens, endedOf}
-use Rattle.tape_records.specs.declared.number.Number.{Number}
 use Rattle.tape_records.specs.declared.records.Record.{Record}
-use Rattle.tape_records.proofs.number.read_number.Reads as read-number
-use Rattle.tape_records.proofs.number.read_number.Kinds as read-number-kinds
 use Rattle.tape_records.proofs.records.decode.Reads as decode
 use Rattle.tape_records.proofs.records.decode.Kinds as decode-kinds
-
-module _ (κs : Lfts 1) (a : Dens κs read-number-kinds.ps) where
-  pub read-number-determined : (r r′ : Number) (e e′ : AtExit (endedOf 1 read-number-kinds.ps read-number-kinds.r) κs)
-      → read-number.Post κs a r e → read-number.Post κs a r′ e′ → r ≡ r′
-  read-number-determined r r′ e e′ p q = p ∙ sym q
 
 module _ (κs : Lfts 1) (a : Dens κs decode-kinds.ps) where
   pub decode-determined : (r r′ : Record) (e e′ : AtExit (endedOf 1 decode-kinds.ps decode-kinds.r) κs)

@@ -9,11 +9,11 @@ use lib.Seq.{drop-drop}
 use borrow.Author.Tests.{eq-eqb, ne-eqb, le-leb}
 use Rattle.bits.specs.Bit.{pick}
 use Rattle.bits.proofs.Decide.{agree2}
-use Rattle.tape_records.specs.declared.number.Number.{Number}
+use Rattle.tape_numbers.specs.declared.Number.{Number}
+use Rattle.tape_numbers.specs.Numbers.{limit32, numberOf}
 use Rattle.tape_records.specs.declared.records.Argument.{Argument}
 use Rattle.tape_records.specs.declared.records.Record.{Record}
 use Rattle.tape_records.specs.declared.records.Record.the-variants.{Whole}
-use Rattle.tape_records.specs.Numbers.{limit32, numberOf}
 use Rattle.tape_records.specs.Records.{arguments, greatestOf, judged, argumentOf, commandOf, next, thirdOf, secondOf, firstOf, started, recordOf}
 
 -- the table by tests, as the code has it

@@ -4,8 +4,9 @@ use mathlib.Core.List.{List, [], _∷_}
 use lib.Dec.{eqb, leb}
 use lib.ListN.{drop, getD}
 use Rattle.bits.specs.Bit.{isOne, pick}
-use Rattle.tape_records.specs.declared.number.Number.{Number}
-use Rattle.tape_records.specs.declared.number.Number.the-variants.{Value, Ended, Damaged}
+use Rattle.tape_numbers.specs.declared.Number.{Number}
+use Rattle.tape_numbers.specs.declared.Number.the-variants.{Value, Ended, Damaged}
+use Rattle.tape_numbers.specs.Numbers.{limit32, numberOf}
 use Rattle.tape_records.specs.declared.records.Command.{Command}
 use Rattle.tape_records.specs.declared.records.Command.the-variants.{Reset, GcAddress, GcData, SeqAddress, SeqData, Read, Write, Peek, Show}
 use Rattle.tape_records.specs.declared.records.Fault.the-variants.{Open, Damage, Range}
@@ -14,7 +15,6 @@ use Rattle.tape_records.specs.declared.records.Argument.{Argument}
 use Rattle.tape_records.specs.declared.records.Argument.the-variants.{Good, Bad}
 use Rattle.tape_records.specs.declared.records.Record.{Record}
 use Rattle.tape_records.specs.declared.records.Record.the-variants.{Whole, Broken}
-use Rattle.tape_records.specs.Numbers.{limit32, numberOf}
 
 -- the greatest values: out of range are a byte above 255 and a page above 1; an address or an offset is any number
 abbrev pub byte : ℕ

@@ -1,9 +1,6 @@
-// A tape's numbers and its records, read from a slice. Nothing is performed here.
-mod number;
+// A tape's records, read from a slice. Nothing is performed here.
 mod records;
 
-pub use number::Number;
-pub use number::read_number;
 pub use records::Command;
 pub use records::Fault;
 pub use records::Operation;
