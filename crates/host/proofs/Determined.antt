@@ -27,7 +27,7 @@ use Rattle.host_records.specs.declared.record.ControllerRecord.{ControllerRecor
 use Rattle.host_records.specs.declared.record.SequencerRecord.{SequencerRecord}
 use Rattle.host_records.specs.declared.left.SequencerAnswer.{SequencerAnswer}
 use Rattle.host_records.specs.Records.{controllerOf, recordOf}
-use Rattle.host.specs.Hosted.{Held, held, graphicsHosted, cpuHosted}
+use Rattle.host_calls.specs.Hosted.{Held, held, graphicsHosted, cpuHosted}
 use Rattle.host.proofs.planes.iddesmar_vram_read_u8.Reads as vram-read-u8
 use Rattle.host.proofs.planes.iddesmar_vram_read_u8.Kinds as vram-read-u8-kinds
 use Rattle.host.proofs.planes.iddesmar_vram_peek_u8.Reads as vram-peek-u8

@@ -5,98 +5,21 @@ ghost use Rattle.machine.specs.Memory.{before, after};
 ghost use Rattle.machine.specs.Answers.{one, part, outcome};
 ghost use Rattle.machine.specs.Calls.{cpuRead, cpuPeek, cpuWrite, serialize};
 ghost use Rattle.host_answers.specs.Answers.{answerSaid, shownOf};
-ghost use Rattle.host_records.specs.Records.{withStats};
-ghost use Rattle.host.specs.Hosted.{held, cpuHosted};
+ghost use Rattle.host_calls.specs.Hosted.{held, cpuHosted};
 use host_answers::Answer;
 use host_answers::Shown;
 use host_answers::of_byte;
 use host_answers::of_part;
 use host_answers::unknown;
 use host_answers::unknown_shown;
-use host_records::left::ControllerAnswer;
-use host_records::left::StatsAnswer;
-use host_records::left::of_cpu_store;
-use host_records::left::unknown_controller;
-use host_records::left::unknown_counters;
+use host_calls::read_of;
+use host_calls::write_of;
 use host_records::record::ControllerRecord;
 use host_records::record::SequencerRecord;
 use host_records::record::known;
-use host_records::record::of_controller;
 use host_records::record::to_controller;
 use host_records::record::to_sequencer;
 use machine::PlaneOffset;
-
-fn read_of(
-    gc: ControllerRecord,
-    seq: SequencerRecord,
-    p0: &[u8],
-    p1: &[u8],
-    p2: &[u8],
-    p3: &[u8],
-    picture: &[u8],
-    address: usize,
-    page: bool,
-) -> ControllerAnswer
-    ensures { λ r. ⌜ outcome (answerSaid (r .answer)) (held (r .gc) (before p0 p1 p2 p3 picture)) ≡ cpuHosted gc seq (before p0 p1 p2 p3 picture) (one 0) (cpuRead address page) ⌝ }
-{
-    if !known(gc, seq) {
-        return unknown_controller(gc);
-    }
-    let controller = to_controller(gc);
-    let sequencer = to_sequencer(seq);
-    let r = graphics_controller::cpu_read_u8(
-        controller,
-        sequencer,
-        p0,
-        p1,
-        p2,
-        p3,
-        picture,
-        address,
-        page,
-    );
-    let answer = r.answer;
-    let next = r.gc;
-    ControllerAnswer {
-        answer: of_byte(answer),
-        gc: of_controller(next),
-    }
-}
-
-// A write moves no register and no latch: the counters alone come back.
-fn write_of(
-    gc: ControllerRecord,
-    seq: SequencerRecord,
-    p0: &mut [u8],
-    p1: &mut [u8],
-    p2: &mut [u8],
-    p3: &mut [u8],
-    picture: &mut [u8],
-    address: usize,
-    page: bool,
-    byte: u8,
-) -> StatsAnswer
-    ensures { λ r. ⌜ outcome (answerSaid (r .answer)) (held (withStats (r .stats) gc) (after p0 p1 p2 p3 picture)) ≡ cpuHosted gc seq (before p0 p1 p2 p3 picture) (one 0) (cpuWrite address page byte) ⌝ }
-{
-    if !known(gc, seq) {
-        return unknown_counters(gc);
-    }
-    let controller = to_controller(gc);
-    let sequencer = to_sequencer(seq);
-    let r = graphics_controller::cpu_write_u8(
-        controller,
-        sequencer,
-        p0,
-        p1,
-        p2,
-        p3,
-        picture,
-        address,
-        page,
-        byte,
-    );
-    of_cpu_store(r)
-}
 
 #[no_mangle]
 pub extern "C" fn iddesmar_gc_cpu_read_u8(

@@ -5,7 +5,7 @@ ghost use Rattle.machine.specs.Memory.{before, after};
 ghost use Rattle.machine.specs.Answers.{one, pixel, part, outcome};
 ghost use Rattle.machine.specs.Calls.{seqCpuReadU8, seqPeekU8, seqGcReadU8, seqReadLinear, seqSerializeLinear, seqPlaneSet, seqPlaneAnd, seqPlaneOr};
 ghost use Rattle.host_answers.specs.Answers.{answerSaid, pixelAnswerSaid, shownOf};
-ghost use Rattle.host.specs.Hosted.{directHosted};
+ghost use Rattle.host_calls.specs.Hosted.{directHosted};
 use host_answers::Answer;
 use host_answers::Shown;
 use host_answers::of_byte;

@@ -6,10 +6,9 @@ ghost use Rattle.machine.specs.Calls.{gcReset, gcChain, gcChain4, gcMemoryMap, 
 ghost use Rattle.machine.specs.Step.{lifted, graphicsStep};
 ghost use Rattle.host_answers.specs.Answers.{answerSaid, mappedSaid as mappedAnswerSaid};
 ghost use Rattle.host_records.specs.Records.{controllerOf, recordOf};
-ghost use Rattle.host.specs.Hosted.{graphicsHosted};
+ghost use Rattle.host_calls.specs.Hosted.{graphicsHosted};
 use host_answers::Answer;
 use host_answers::Mapped;
-use host_answers::done;
 use host_answers::of_byte;
 use host_answers::of_flag;
 use host_answers::of_map;
@@ -17,9 +16,9 @@ use host_answers::of_mapped;
 use host_answers::of_odd_even;
 use host_answers::of_shift;
 use host_answers::unknown;
-use host_records::left::ControllerAnswer;
-use host_records::left::of_graphics_done;
-use host_records::left::unknown_controller;
+use host_calls::address_of;
+use host_calls::data_of;
+use host_calls::reset_of;
 use host_records::record::ControllerRecord;
 use host_records::record::known_controller;
 use host_records::record::of_controller;
@@ -32,34 +31,6 @@ pub extern "C" fn iddesmar_gc_new() -> ControllerRecord
     ensures { λ r. ⌜ r ≡ recordOf freshGc ⌝ }
 {
     of_controller(GraphicsController::new())
-}
-
-fn reset_of(gc: ControllerRecord) -> ControllerAnswer
-    ensures { λ r. ⌜ outcome (answerSaid (r .answer)) (r .gc) ≡ lifted recordOf (graphicsStep (controllerOf gc) gcReset) ⌝ }
-{
-    let next = graphics_controller::reset(to_controller(gc));
-    ControllerAnswer {
-        answer: done(),
-        gc: of_controller(next),
-    }
-}
-
-fn address_of(gc: ControllerRecord, byte: u8) -> ControllerAnswer
-    ensures { λ r. ⌜ outcome (answerSaid (r .answer)) (r .gc) ≡ graphicsHosted gc (one 0) (gcWriteAddress byte) ⌝ }
-{
-    if !known_controller(gc) {
-        return unknown_controller(gc);
-    }
-    of_graphics_done(graphics_controller::write_address(to_controller(gc), byte))
-}
-
-fn data_of(gc: ControllerRecord, byte: u8) -> ControllerAnswer
-    ensures { λ r. ⌜ outcome (answerSaid (r .answer)) (r .gc) ≡ graphicsHosted gc (one 0) (gcWriteData byte) ⌝ }
-{
-    if !known_controller(gc) {
-        return unknown_controller(gc);
-    }
-    of_graphics_done(graphics_controller::write_data(to_controller(gc), byte))
 }
 
 // Any record is taken; latches and counters go back to the start too.

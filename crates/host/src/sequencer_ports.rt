@@ -6,7 +6,7 @@ ghost use Rattle.machine.specs.Calls.{seqReset, seqClock, seqSetClockChangePend
 ghost use Rattle.machine.specs.Step.{lifted, sequencerStep};
 ghost use Rattle.host_answers.specs.Answers.{answerSaid, clockSaid as clockAnswerSaid};
 ghost use Rattle.host_records.specs.Records.{sequencerOf, sequencerRecordOf};
-ghost use Rattle.host.specs.Hosted.{sequencerHosted};
+ghost use Rattle.host_calls.specs.Hosted.{sequencerHosted};
 use host_answers::Answer;
 use host_answers::Clock;
 use host_answers::done;

@@ -1,7 +1,5 @@
 // The two records as a host keeps them: numbers and flags alone, since an enum cannot cross the boundary. The selected register is its number.
 ghost use mathlib.Core.Path.{_≡_};
-ghost use mathlib.Core.Bool.{_&&_};
-ghost use lib.Dec.{leb};
 ghost use Rattle.host_records.specs.Records.{statsOf, statsRecordOf, controllerOf, recordOf, sequencerOf, sequencerRecordOf, knownGc as knowsGc, knownSeq as knowsSeq, known as knows};
 use machine::GraphicsController;
 use machine::GraphicsControllerStats;

@@ -3,7 +3,7 @@ use mathlib.Core.Path.{refl}
 use mathlib.Core.List.{[]}
 use Rattle.machine.specs.Memory.{mem}
 use Rattle.machine.specs.Answers.{said, part}
-use Rattle.host.proofs.Laws.{unknown-of, known-of, cpu-unknown, cpu-asked, shown-of}
+use Rattle.host_calls.proofs.Laws.{unknown-of, known-of, cpu-unknown, cpu-asked, shown-of}
 use borrow.Author.Needs.{needs}
 use Rattle.host.proofs.access.iddesmar_gc_serialize.Statement.{statement}
 use Rattle.host.proofs.access.iddesmar_gc_serialize.Tie as tie

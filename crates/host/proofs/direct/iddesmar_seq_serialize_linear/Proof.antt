@@ -3,7 +3,7 @@ use mathlib.Core.Path.{refl}
 use mathlib.Core.List.{[]}
 use Rattle.machine.specs.Memory.{mem}
 use Rattle.machine.specs.Answers.{said, part}
-use Rattle.host.proofs.Laws.{unknown-of, known-of, direct-unknown, direct-known, shown-of}
+use Rattle.host_calls.proofs.Laws.{unknown-of, known-of, direct-unknown, direct-known, shown-of}
 use borrow.Author.Needs.{needs}
 use Rattle.host.proofs.direct.iddesmar_seq_serialize_linear.Statement.{statement}
 use Rattle.host.proofs.direct.iddesmar_seq_serialize_linear.Tie as tie

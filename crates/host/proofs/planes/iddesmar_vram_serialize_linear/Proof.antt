@@ -1,5 +1,5 @@
 -- The pixels that `serialize_linear` of vram hands back.
-use Rattle.host.proofs.Laws.{shown-of}
+use Rattle.host_calls.proofs.Laws.{shown-of}
 use borrow.Author.Needs.{needs}
 use Rattle.host.proofs.planes.iddesmar_vram_serialize_linear.Statement.{statement}
 use Rattle.host.proofs.planes.iddesmar_vram_serialize_linear.Tie as tie

@@ -1,7 +1,7 @@
 -- Refusal 6 where a number selects no register, else as `map_address` of the record that is meant.
 use mathlib.Core.Path.{refl}
 use Rattle.machine.specs.Answers.{two}
-use Rattle.host.proofs.Laws.{unknown-of, known-of, graphics-unknown, graphics-asked}
+use Rattle.host_calls.proofs.Laws.{unknown-of, known-of, graphics-unknown, graphics-asked}
 use borrow.Author.Needs.{needs}
 use Rattle.host.proofs.ports.iddesmar_gc_map_address.Statement.{statement}
 use Rattle.host.proofs.ports.iddesmar_gc_map_address.Tie as tie

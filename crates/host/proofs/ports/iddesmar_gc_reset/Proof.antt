@@ -59,10 +59,10 @@ use Rattle.host_answers.proofs.Answer.Laws as N′
 use Rattle.host_records.proofs.left.ControllerAnswer as R
 use Rattle.host_records.proofs.left.ControllerAnswer.Laws as R′
 use Rattle.host_records.proofs.InPlace.{Bytes, gval, sval, head-is, rval, aval, an-is, gc-is}
-use Rattle.host.proofs.ports.reset_of as by-value
-use Rattle.host.proofs.ports.reset_of.Symbol as by-value-def
-use Rattle.host.proofs.ports.reset_of.Symbol.{name as #by-value}
-use Rattle.host.proofs.ports.reset_of.Met as by-value-thm
+use Rattle.host_calls.proofs.reset_of as by-value
+use Rattle.host_calls.proofs.reset_of.Symbol as by-value-def
+use Rattle.host_calls.proofs.reset_of.Symbol.{name as #by-value}
+use Rattle.host_calls.proofs.reset_of.Met as by-value-thm
 use Rattle.host.proofs.ports.iddesmar_gc_reset.Key.{name as #place}
 use Rattle.host.proofs.ports.iddesmar_gc_reset as place
 use Rattle.host.proofs.ports.iddesmar_gc_reset.Statement as stated
@@ -178,4 +178,4 @@ iddesmar-gc-reset-spec 𝓤 H 𝓜 𝓖 𝓡 =
     entered 𝓤 H (tripleOf 𝓤 H (𝓖 .A) place.signature (place.spec 𝓤 H (𝓖 .A) (𝓜 .mem) (𝓡 .run)))
     (tables 𝓤 H 𝓜 𝓡 code.env .C) (tables 𝓤 H 𝓜 𝓡 code.env .Λ) #place code.function (code.unfolded 𝓤 H 𝓜 𝓡)
     (place-meets 𝓤 H (𝓖 .A) (givenOf 𝓤 H 𝓜 𝓖) (𝓜 .mem) (𝓡 .run) (tablesOf 𝓤 H 𝓜 (tables 𝓤 H 𝓜 𝓡 code.env))
-    (cited 𝓤 H (Called 𝓤 H (𝓖 .A) (𝓜 .mem) (𝓡 .run)) 𝓜 𝓡 code.env #by-value by-value-def.routine code.calls-host·ports·reset-of (by-value-thm.met 𝓤 H 𝓜 𝓖 𝓡)))
+    (cited 𝓤 H (Called 𝓤 H (𝓖 .A) (𝓜 .mem) (𝓡 .run)) 𝓜 𝓡 code.env #by-value by-value-def.routine code.calls-host-calls·reset-of (by-value-thm.met 𝓤 H 𝓜 𝓖 𝓡)))

@@ -1,7 +1,7 @@
 -- Refusal 6 where a number selects no register, else as `poll_clock_change` of the record that is meant.
 use mathlib.Core.Path.{refl, _∙_}
 use Rattle.machine.specs.Answers.{one}
-use Rattle.host.proofs.Laws.{unknown-of, known-of, seq-unknown, seq-known}
+use Rattle.host_calls.proofs.Laws.{unknown-of, known-of, seq-unknown, seq-known}
 use borrow.Author.Needs.{needs}
 use Rattle.host.proofs.sequencer_ports.iddesmar_seq_poll_clock_change.Statement.{statement}
 use Rattle.host.proofs.sequencer_ports.iddesmar_seq_poll_clock_change.Tie as tie

@@ -2,7 +2,7 @@
 use mathlib.Core.Path.{ap}
 use Rattle.machine.specs.Answers.{one}
 use Rattle.host_answers.specs.Answers.{answerSaid}
-use Rattle.host.proofs.Laws.{unknown-of, known-of, seq-unknown, seq-asked}
+use Rattle.host_calls.proofs.Laws.{unknown-of, known-of, seq-unknown, seq-asked}
 use borrow.Author.Needs.{needs}
 use Rattle.host.proofs.sequencer_ports.iddesmar_seq_read_data.Statement.{statement}
 use Rattle.host.proofs.sequencer_ports.iddesmar_seq_read_data.Tie as tie

@@ -1,10 +1,10 @@
 -- `read_of` answers 6 where a number selects no register, else as `cpu_read_u8` of the records that are meant.
 use Rattle.machine.specs.Memory.{mem}
 use Rattle.machine.specs.Answers.{one}
-use Rattle.host.proofs.Laws.{unknown-of, known-of, cpu-unknown, cpu-known, said-of, left-of}
+use Rattle.host_calls.proofs.Laws.{unknown-of, known-of, cpu-unknown, cpu-known, said-of, left-of}
 use borrow.Author.Needs.{needs}
-use Rattle.host.proofs.access.read_of.Statement.{statement}
-use Rattle.host.proofs.access.read_of.Tie as tie
+use Rattle.host_calls.proofs.read_of.Statement.{statement}
+use Rattle.host_calls.proofs.read_of.Tie as tie
 
 known-requires : tie.Need-known-requires
 known-requires c κs = search needs

@@ -21,7 +21,7 @@ use Rattle.host_records.specs.declared.record.ControllerRecord.{ControllerRecor
 use Rattle.host_records.specs.declared.record.SequencerRecord.{SequencerRecord}
 use Rattle.host_records.specs.Records.{knownGc, knownSeq, known, controllerOf, recordOf, sequencerOf, sequencerRecordOf, statsRecordOf, withStats}
 use Rattle.host_records.proofs.Laws.{record-back, sequencer-back, known-gc}
-use Rattle.host.specs.Hosted.{held, heldOf, sequencerHosted, directHosted, graphicsHosted, cpuHosted}
+use Rattle.host_calls.specs.Hosted.{held, heldOf, sequencerHosted, directHosted, graphicsHosted, cpuHosted}
 
 -- what a test of a record says, asked for negated as the code does
 pub unknown-of : {b k : Bool} → not b ≡ true → b ≡ k → false ≡ k

@@ -4,8 +4,8 @@ use Rattle.machine.specs.declared.graphics.GraphicsController.{GraphicsControll
 use Rattle.machine.specs.Answers.{Outcome, outcome}
 use Rattle.host_records.specs.Records.{recordOf}
 use borrow.Author.Needs.{needs}
-use Rattle.host.proofs.ports.reset_of.Statement.{statement}
-use Rattle.host.proofs.ports.reset_of.Tie as tie
+use Rattle.host_calls.proofs.reset_of.Statement.{statement}
+use Rattle.host_calls.proofs.reset_of.Tie as tie
 
 to-controller-requires : tie.Need-to-controller-requires
 to-controller-requires c κs = search needs

@@ -4,10 +4,10 @@ use Rattle.machine.specs.Memory.{mem}
 use Rattle.machine.specs.Answers.{one}
 use Rattle.host_records.specs.declared.record.StatsRecord.{StatsRecord}
 use Rattle.host_records.specs.Records.{withStats}
-use Rattle.host.proofs.Laws.{unknown-of, known-of, cpu-unknown, cpu-wrote, said-of, left-of}
+use Rattle.host_calls.proofs.Laws.{unknown-of, known-of, cpu-unknown, cpu-wrote, said-of, left-of}
 use borrow.Author.Needs.{needs}
-use Rattle.host.proofs.access.write_of.Statement.{statement}
-use Rattle.host.proofs.access.write_of.Tie as tie
+use Rattle.host_calls.proofs.write_of.Statement.{statement}
+use Rattle.host_calls.proofs.write_of.Tie as tie
 
 known-requires : tie.Need-known-requires
 known-requires c κs = search needs

@@ -1,0 +1,125 @@
+// The calls that move the controller's record, over a host's records and by value: the library puts back what they leave.
+ghost use mathlib.Core.Path.{_≡_};
+ghost use Rattle.machine.specs.Memory.{before, after};
+ghost use Rattle.machine.specs.Answers.{one, outcome};
+ghost use Rattle.machine.specs.Calls.{cpuRead, cpuWrite, gcReset, gcWriteAddress, gcWriteData};
+ghost use Rattle.machine.specs.Step.{lifted, graphicsStep};
+ghost use Rattle.host_answers.specs.Answers.{answerSaid};
+ghost use Rattle.host_records.specs.Records.{withStats, controllerOf, recordOf};
+ghost use Rattle.host_calls.specs.Hosted.{held, cpuHosted, graphicsHosted};
+use host_answers::done;
+use host_answers::of_byte;
+use host_records::left::ControllerAnswer;
+use host_records::left::StatsAnswer;
+use host_records::left::of_cpu_store;
+use host_records::left::of_graphics_done;
+use host_records::left::unknown_controller;
+use host_records::left::unknown_counters;
+use host_records::record::ControllerRecord;
+use host_records::record::SequencerRecord;
+use host_records::record::known;
+use host_records::record::known_controller;
+use host_records::record::of_controller;
+use host_records::record::to_controller;
+use host_records::record::to_sequencer;
+
+// A read: the answer, and the record with its latches and counters.
+pub fn read_of(
+    gc: ControllerRecord,
+    seq: SequencerRecord,
+    p0: &[u8],
+    p1: &[u8],
+    p2: &[u8],
+    p3: &[u8],
+    picture: &[u8],
+    address: usize,
+    page: bool,
+) -> ControllerAnswer
+    ensures { λ r. ⌜ outcome (answerSaid (r .answer)) (held (r .gc) (before p0 p1 p2 p3 picture)) ≡ cpuHosted gc seq (before p0 p1 p2 p3 picture) (one 0) (cpuRead address page) ⌝ }
+{
+    if !known(gc, seq) {
+        return unknown_controller(gc);
+    }
+    let controller = to_controller(gc);
+    let sequencer = to_sequencer(seq);
+    let r = graphics_controller::cpu_read_u8(
+        controller,
+        sequencer,
+        p0,
+        p1,
+        p2,
+        p3,
+        picture,
+        address,
+        page,
+    );
+    let answer = r.answer;
+    let next = r.gc;
+    ControllerAnswer {
+        answer: of_byte(answer),
+        gc: of_controller(next),
+    }
+}
+
+// A write moves no register and no latch: the counters alone come back.
+pub fn write_of(
+    gc: ControllerRecord,
+    seq: SequencerRecord,
+    p0: &mut [u8],
+    p1: &mut [u8],
+    p2: &mut [u8],
+    p3: &mut [u8],
+    picture: &mut [u8],
+    address: usize,
+    page: bool,
+    byte: u8,
+) -> StatsAnswer
+    ensures { λ r. ⌜ outcome (answerSaid (r .answer)) (held (withStats (r .stats) gc) (after p0 p1 p2 p3 picture)) ≡ cpuHosted gc seq (before p0 p1 p2 p3 picture) (one 0) (cpuWrite address page byte) ⌝ }
+{
+    if !known(gc, seq) {
+        return unknown_counters(gc);
+    }
+    let controller = to_controller(gc);
+    let sequencer = to_sequencer(seq);
+    let r = graphics_controller::cpu_write_u8(
+        controller,
+        sequencer,
+        p0,
+        p1,
+        p2,
+        p3,
+        picture,
+        address,
+        page,
+        byte,
+    );
+    of_cpu_store(r)
+}
+
+pub fn reset_of(gc: ControllerRecord) -> ControllerAnswer
+    ensures { λ r. ⌜ outcome (answerSaid (r .answer)) (r .gc) ≡ lifted recordOf (graphicsStep (controllerOf gc) gcReset) ⌝ }
+{
+    let next = graphics_controller::reset(to_controller(gc));
+    ControllerAnswer {
+        answer: done(),
+        gc: of_controller(next),
+    }
+}
+
+pub fn address_of(gc: ControllerRecord, byte: u8) -> ControllerAnswer
+    ensures { λ r. ⌜ outcome (answerSaid (r .answer)) (r .gc) ≡ graphicsHosted gc (one 0) (gcWriteAddress byte) ⌝ }
+{
+    if !known_controller(gc) {
+        return unknown_controller(gc);
+    }
+    of_graphics_done(graphics_controller::write_address(to_controller(gc), byte))
+}
+
+pub fn data_of(gc: ControllerRecord, byte: u8) -> ControllerAnswer
+    ensures { λ r. ⌜ outcome (answerSaid (r .answer)) (r .gc) ≡ graphicsHosted gc (one 0) (gcWriteData byte) ⌝ }
+{
+    if !known_controller(gc) {
+        return unknown_controller(gc);
+    }
+    of_graphics_done(graphics_controller::write_data(to_controller(gc), byte))
+}
