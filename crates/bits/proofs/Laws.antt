@@ -4,15 +4,20 @@ use native.Mathlib.Nat.{pow-suc, div-div-eq-div-mul, mul-comm, div-eq-of-lt, lt-
 use native.Mathlib.Numerals.{add-one}
 use native.Mathlib.Omega.{arith}
 use mathlib.Core.Path.{_≡_, refl, sym, ap, ap₂, _∙_}
+use mathlib.Core.Bool.{Bool, true, false}
 use lib.Pow.{pow-mono, shr-lt, shr-shr, mod-mod-pow}
 use lib.Pow
-use Rattle.bits.specs.Bit.{bit, ofBits}
+use Rattle.bits.specs.Bit.{bit, ofBits, bitOf}
 
 -- ---- one bit
 
 pub bit-lt : (i x : ℕ) → bit i x < 2
 unfolding bit
 bit-lt i x = omega arith
+
+pub test-lt : (b : Bool) → bitOf b < 2
+test-lt true = omega arith
+test-lt false = omega arith
 
 pub bit-zero : (x : ℕ) → bit 0 x ≡ x % 2
 unfolding bit

@@ -1,3 +1,2 @@
 pub mod Accesses
 pub mod Determined
-pub mod Planes

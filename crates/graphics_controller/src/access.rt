@@ -9,7 +9,6 @@ ghost use Rattle.machine.specs.Deeds.{loaded};
 ghost use Rattle.machine.specs.Calls.{counted, readCounter, writeCounter, cpuRead, cpuPeek, cpuWrite};
 ghost use Rattle.machine.specs.Step.{device, cpuStep};
 ghost use Rattle.graphics_controller.specs.Reads.{readByte};
-use crate::visit::write_planes;
 use judges::judge_address;
 use machine::ByteAnswer;
 use machine::CpuByte;
@@ -26,6 +25,7 @@ use read_path::counted_read;
 use read_path::pixel_op_compare;
 use read_path::selected_plane;
 use record_judges::fits_both;
+use visits::inner::write_planes;
 use write_path::counted_write;
 
 // The four planes' bytes at an offset.

@@ -1,7 +1,6 @@
 // The graphics controller: the processor's accesses and the show, and its registers, which have no memory (`graphics_registers`).
 mod access;
 mod show;
-mod visit;
 
 pub use access::cpu_peek_u8;
 pub use access::cpu_read_u8;

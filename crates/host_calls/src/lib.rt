@@ -99,10 +99,10 @@ pub fn write_of(
 pub fn reset_of(gc: ControllerRecord) -> ControllerAnswer
     ensures { λ r. ⌜ outcome (answerSaid (r .answer)) (r .gc) ≡ lifted recordOf (graphicsStep (controllerOf gc) gcReset) ⌝ }
 {
-    let next = graphics_controller::reset(to_controller(gc));
+    let fresh = graphics_controller::reset(to_controller(gc));
     ControllerAnswer {
         answer: done(),
-        gc: of_controller(next),
+        gc: of_controller(fresh),
     }
 }
 

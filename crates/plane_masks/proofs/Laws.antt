@@ -10,7 +10,7 @@ use lib.Pow.{pow-pos}
 use mir.Val.{boolByte}
 use borrow.Author.Tests.{leb-true}
 use Rattle.bits.specs.Bit.{bit, ofBits, isOne, bitOf, pick}
-use Rattle.bits.proofs.Laws.{bit-lt, bit-of, is-of}
+use Rattle.bits.proofs.Laws.{bit-lt, test-lt, bit-of, is-of}
 use Rattle.bits.proofs.Bitwise.{bit-and, and-one-shl}
 use Rattle.bits.proofs.Decide.{agree1, agree2}
 use Rattle.machine.specs.declared.sequencer.Sequencer.{Sequencer}
@@ -46,10 +46,6 @@ pub stored-at-lt : (s : Sequencer) (o : ℕ) {at n : ℕ} → at ≡ storedAt s 
 stored-at-lt s o e h = omega (arith, stored-at-le s o)
 
 -- ---- the mask
-
-test-lt : (b : Bool) → bitOf b < 2
-test-lt true = omega arith
-test-lt false = omega arith
 
 -- a record that fits has a Map Mask of four bits
 pub map-mask-lt : (s : Sequencer) → fitsSeq s ≡ true → s .«map_mask» < 16

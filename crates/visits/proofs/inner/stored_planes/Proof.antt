@@ -7,10 +7,10 @@ use Rattle.machine.specs.Address.{a0}
 use Rattle.machine.specs.Sequencer.{inMask}
 use Rattle.machine.specs.DataPath.{visits}
 use Rattle.plane_masks.specs.Mask.{maskOf}
-use Rattle.graphics_controller.specs.Writes.{stores, storesTo}
-use Rattle.graphics_controller.proofs.Planes.{tests-shared}
-use Rattle.graphics_controller.proofs.visit.stored_planes.Statement.{statement}
-use Rattle.graphics_controller.proofs.visit.stored_planes.Tie as tie
+use Rattle.visits.specs.Writes.{stores, storesTo}
+use Rattle.visits.proofs.Planes.{tests-shared}
+use Rattle.visits.proofs.inner.stored_planes.Statement.{statement}
+use Rattle.visits.proofs.inner.stored_planes.Tie as tie
 
 visited-requires : tie.Need-visited-requires
 visited-requires c κs = search needs

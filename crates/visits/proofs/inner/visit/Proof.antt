@@ -8,9 +8,9 @@ use Rattle.bits.specs.Bit.{bit, isOne}
 use Rattle.machine.proofs.Laws.{below, laid-none, laid-all}
 use Rattle.machine.specs.Deeds.{latch, laid}
 use Rattle.machine.specs.Memory.{mem, Shaped}
-use Rattle.graphics_controller.proofs.Planes.{turn}
-use Rattle.graphics_controller.proofs.visit.visit.Statement.{statement}
-use Rattle.graphics_controller.proofs.visit.visit.Tie as tie
+use Rattle.visits.proofs.Planes.{turn}
+use Rattle.visits.proofs.inner.visit.Statement.{statement}
+use Rattle.visits.proofs.inner.visit.Tie as tie
 
 abbrev Inv-loop : tie.InvT-loop
 Inv-loop p0₀ p1₀ p2₀ p3₀ picture planes bytes at plane₀ p0 p1 p2 p3 plane =

@@ -10,7 +10,7 @@ use lib.Bits.{bitAnd, and-lt}
 use lib.ListN.{set}
 use borrow.Author.Tests.{eqb-true}
 use Rattle.bits.specs.Bit.{bit, ofBits, isOne, bitOf, pick}
-use Rattle.bits.proofs.Laws.{bit-of, of-lt, is-of}
+use Rattle.bits.proofs.Laws.{test-lt, bit-of, of-lt, is-of}
 use Rattle.bits.proofs.Bitwise.{bit-and}
 use Rattle.machine.specs.declared.graphics.GraphicsRegisters.{GraphicsRegisters}
 use Rattle.machine.specs.declared.graphics.WriteMode.{WriteMode}
@@ -22,13 +22,9 @@ use Rattle.machine.specs.Deeds.{latch, any, laid, remade, stored, storedByte, m
 use Rattle.machine.specs.Calls.{writeDeed}
 use Rattle.machine.proofs.Laws.{below, laid-more, laid-skip}
 use Rattle.write_path.specs.Written.{written, four}
-use Rattle.graphics_controller.specs.Writes.{stores, storesTo}
+use Rattle.visits.specs.Writes.{stores, storesTo}
 
 -- ---- four tests as four bits
-
-test-lt : (b : Bool) → bitOf b < 2
-test-lt true = omega arith
-test-lt false = omega arith
 
 is-one : (b : Bool) → isOne (bitOf b) ≡ b
 is-one true = refl

@@ -11,7 +11,7 @@ ghost use Rattle.machine.specs.Sequencer.{fitsSeq};
 ghost use Rattle.machine.specs.Address.{a0 as bit0};
 ghost use Rattle.machine.specs.Deeds.{latch, laid, memoryAfter};
 ghost use Rattle.machine.specs.Calls.{writeDeed};
-ghost use Rattle.graphics_controller.specs.Writes.{storesTo};
+ghost use Rattle.visits.specs.Writes.{storesTo};
 use machine::GraphicsController;
 use machine::GraphicsRegisters;
 use machine::Sequencer;

@@ -9,10 +9,10 @@ use Rattle.machine.specs.Calls.{writeDeed}
 use Rattle.machine.specs.Deeds.{remade, memoryAfter}
 use Rattle.machine.specs.Memory.{mem}
 use Rattle.plane_masks.proofs.Laws.{stored-at-le}
-use Rattle.graphics_controller.proofs.Planes.{write-counts, write-none, write-some}
+use Rattle.visits.proofs.Planes.{write-counts, write-none, write-some}
 use types.Run.{OneOf}
-use Rattle.graphics_controller.proofs.visit.write_planes.Statement.{statement}
-use Rattle.graphics_controller.proofs.visit.write_planes.Tie as tie
+use Rattle.visits.proofs.inner.write_planes.Statement.{statement}
+use Rattle.visits.proofs.inner.write_planes.Tie as tie
 
 write-mode-requires : tie.Need-write-mode-requires
 write-mode-requires c κs = search needs

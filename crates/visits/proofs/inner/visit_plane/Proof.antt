@@ -4,8 +4,8 @@ use mathlib.Core.Path.{_≡_}
 use borrow.Author.Needs.{needs}
 use Rattle.bits.proofs.Bitwise.{bit-set, bit-clear}
 use Rattle.bits.specs.Bit.{bit}
-use Rattle.graphics_controller.proofs.visit.visit_plane.Statement.{statement}
-use Rattle.graphics_controller.proofs.visit.visit_plane.Tie as tie
+use Rattle.visits.proofs.inner.visit_plane.Statement.{statement}
+use Rattle.visits.proofs.inner.visit_plane.Tie as tie
 
 cast-if1 : tie.Need-cast-if1
 cast-if1 c = search needs
