@@ -127,6 +127,7 @@ class Model:
         return bit(self.seq[MEMORY_MODE], 3) == 1
 
     def gc_read(self, plane, offset):
+        # as the Rust's text: document 01 says nothing of it
         self.judge_seq()
         self.judge_plane(plane, offset)
         return self.memory[plane][offset - offset % 4 if bit(self.seq[MEMORY_MODE], 2) and self.chain_four() else offset]
