@@ -1,18 +1,4 @@
-// Every call of graphics_controller on small memory, with good input and bad input of each kind: answers, values and what changed.
-mod accesses;
-mod addresses;
-mod lengths;
-mod ports;
-mod print;
-mod records;
-mod refused;
-mod shows;
-
+// A list that tries every call of graphics_controller, with good input and bad input of each kind.
 fn main() {
-    ports::tell();
-    addresses::tell();
-    accesses::tell();
-    shows::tell();
-    refused::tell();
-    lengths::tell();
+    call_lists::run();
 }

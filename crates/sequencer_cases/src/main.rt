@@ -1,15 +1,4 @@
-// Every call of the sequencer, with good input and bad input of each kind: answers, values and what changed.
-mod memory;
-mod ports;
-mod print;
-mod reads;
-mod records;
-mod refusals;
-mod stores;
-
+// A list that tries every call of the sequencer, with good input and bad input of each kind.
 fn main() {
-    ports::tell();
-    reads::tell();
-    stores::tell();
-    refusals::tell();
+    call_lists::run();
 }

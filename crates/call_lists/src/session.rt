@@ -1,0 +1,220 @@
+// A session: both records, how much memory is lent, the line that is being read, and how many calls there were.
+ghost use Prim.Native.Nat.{_≤_};
+use crate::digest;
+use crate::graphics_call;
+use crate::graphics_call::GraphicsLeft;
+use crate::line::Call;
+use crate::line::Line;
+use crate::memory_call;
+use crate::print;
+use crate::said;
+use crate::said::Said;
+use crate::sequencer_call;
+use crate::settings;
+use crate::store_call;
+use machine::GraphicsController;
+use machine::Sequencer;
+use machine::Shape;
+
+pub struct Session {
+    pub gc: GraphicsController,
+    pub seq: Sequencer,
+    pub lent: Shape,
+    pub line: Line,
+    pub calls: u64,
+    pub ended: bool,
+}
+
+impl Session {
+    // Fresh records, and the memory of the Rust.
+    pub fn new() -> Self {
+        let lent = Shape {
+            p0: 65536,
+            p1: 65536,
+            p2: 65536,
+            p3: 65536,
+            picture: 524288,
+        };
+        Session {
+            gc: GraphicsController::new(),
+            seq: Sequencer::new(),
+            lent,
+            line: Line::new(),
+            calls: 0,
+            ended: false,
+        }
+    }
+
+    // One byte more; where it ends a call, that call is counted.
+    fn read(mut self, b: u8) -> Self {
+        let line = self.line;
+        if line.is_call(b) {
+            self.calls = std::num::wrapping_add_u64(self.calls, 1);
+        }
+        self.line = line.feed(b);
+        self
+    }
+}
+
+// One byte of the list: at a line's end the call that it has is made, and its line printed.
+pub fn feed(
+    session: Session,
+    b: u8,
+    p0: &mut [u8],
+    p1: &mut [u8],
+    p2: &mut [u8],
+    p3: &mut [u8],
+    picture: &mut [u8],
+) -> Session {
+    let line = session.line;
+    let next = session.read(b);
+    if !line.is_call(b) {
+        return next;
+    }
+    let call = line.call();
+    if call.operation == settings::PUT {
+        settings::put(call, p0, p1, p2, p3, picture);
+        told(next.calls, call.operation, said::given(0));
+        return next;
+    }
+    lend(next, call, p0, p1, p2, p3, picture)
+}
+
+// Lends a call the first bytes of each slice.
+fn lend(
+    session: Session,
+    call: Call,
+    p0: &mut [u8],
+    p1: &mut [u8],
+    p2: &mut [u8],
+    p3: &mut [u8],
+    picture: &mut [u8],
+) -> Session {
+    let lent = session.lent;
+    let n0 = least(lent.p0, p0.len());
+    let n1 = least(lent.p1, p1.len());
+    let n2 = least(lent.p2, p2.len());
+    let n3 = least(lent.p3, p3.len());
+    let pixels = least(lent.picture, picture.len());
+    made(
+        session,
+        call,
+        &mut p0[..n0],
+        &mut p1[..n1],
+        &mut p2[..n2],
+        &mut p3[..n3],
+        &mut picture[..pixels],
+    )
+}
+
+fn least(length: usize, room: usize) -> usize
+    ensures { λ r. ⌜ r ≤ room ⌝ }
+{
+    if length < room { length } else { room }
+}
+
+fn made(
+    session: Session,
+    call: Call,
+    p0: &mut [u8],
+    p1: &mut [u8],
+    p2: &mut [u8],
+    p3: &mut [u8],
+    picture: &mut [u8],
+) -> Session {
+    if !store_call::is_store(call.operation) {
+        return asked(session, call, p0, p1, p2, p3, picture);
+    }
+    let gc = session.gc;
+    let seq = session.seq;
+    let left = store_call::stores(call, gc, seq, p0, p1, p2, p3, picture);
+    with_controller(session, call.operation, left)
+}
+
+// A call that leaves memory as it is: the digest, a call on a record alone, or a read.
+fn asked(
+    session: Session,
+    call: Call,
+    p0: &[u8],
+    p1: &[u8],
+    p2: &[u8],
+    p3: &[u8],
+    picture: &[u8],
+) -> Session {
+    if call.operation == 0 {
+        whole(session, p0, p1, p2, p3, picture);
+        return session;
+    }
+    if settings::is_setting(call.operation) {
+        return set(session, call);
+    }
+    if !memory_call::is_read(call.operation) {
+        return ports(session, call);
+    }
+    let gc = session.gc;
+    let seq = session.seq;
+    let left = memory_call::reads(call, gc, seq, p0, p1, p2, p3, picture);
+    with_controller(session, call.operation, left)
+}
+
+// A field of a record, or a length.
+fn set(session: Session, call: Call) -> Session {
+    let operation = call.operation;
+    let gc = session.gc;
+    let seq = session.seq;
+    let lent = session.lent;
+    let mut next = session;
+    match operation {
+        42 => next.gc = settings::controller(call, gc),
+        43 => next.seq = settings::sequencer(call, seq),
+        _ => next.lent = settings::lengths(call, lent),
+    }
+    told(next.calls, operation, said::given(0));
+    next
+}
+
+// A call on one of the records alone.
+fn ports(session: Session, call: Call) -> Session {
+    let gc = session.gc;
+    let seq = session.seq;
+    if call.operation <= 18 {
+        let left = sequencer_call::ports(call, seq);
+        let kept = left.seq;
+        let said = left.said;
+        let mut next = session;
+        next.seq = kept;
+        told(session.calls, call.operation, said);
+        return next;
+    }
+    with_controller(session, call.operation, graphics_call::ports(call, gc))
+}
+
+// The controller's record as a call left it, once the call's line is printed.
+fn with_controller(session: Session, operation: usize, left: GraphicsLeft) -> Session {
+    let kept = left.gc;
+    let said = left.said;
+    let mut next = session;
+    next.gc = kept;
+    told(session.calls, operation, said);
+    next
+}
+
+// A digest's line.
+fn whole(session: Session, p0: &[u8], p1: &[u8], p2: &[u8], p3: &[u8], picture: &[u8]) {
+    let mut out = [0u8; 512];
+    let gc = session.gc;
+    let seq = session.seq;
+    let mut at = print::digits(&mut out, 0, session.calls);
+    at = print::number(&mut out, at, 0);
+    at = digest::text(gc, seq, p0, p1, p2, p3, picture, &mut out, at);
+    print::end(&mut out, at);
+}
+
+// A call's line.
+fn told(calls: u64, operation: usize, said: Said) {
+    let mut out = [0u8; 512];
+    let mut at = print::digits(&mut out, 0, calls);
+    at = print::number(&mut out, at, operation as u64);
+    at = said::text(said, &mut out, at);
+    print::end(&mut out, at);
+}

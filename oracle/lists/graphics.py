@@ -1,0 +1,222 @@
+"""Every call of graphics_controller: ports, addresses, accesses in every mode, shows, records and lengths that are refused."""
+from .sequencer import AT_BOUND, NAMES as SEQ_NAMES, masked
+from .words import BYTE, DIGEST, GC_FIELD, HUGE, SEQ_FIELD, call, calls, case, fill, lend, lend_all, seen
+
+NAMES = ["GC address", "Set/Reset", "Enable", "Compare", "Don't Care", "map select"]
+ABOVE = [(0, 16), (2, 16), (3, 16), (4, 16), (9, 16), (6, 4)]
+
+
+def data(*pairs):
+    for register, byte in pairs:
+        calls((35, register), (36, byte))
+
+
+def of_mode(mode, *pairs):
+    """A fresh record with the window A0000..AFFFF, a mode and more."""
+    call(27)
+    data((6, 4), (5, mode), *pairs)
+
+
+def write(address, byte, n, at):
+    call(40, address, 0, byte)
+    seen(n, at)
+
+
+def read(address):
+    calls((38, address, 0), (39, address, 0), (DIGEST,))
+
+
+def ports():
+    lend_all(2)
+    case("FF written to each register: address and data read back; from 9 on the selection stays")
+    for address in [*range(16), 0x13]:
+        data((address, 0xFF))
+        calls((33,), (34,))
+    case("5A to Data Rotate by address 3, A5 to it by address 11")
+    for address, byte in (3, 0x5A), (11, 0xA5):
+        data((address, byte))
+        calls((33,), (34,))
+    call(DIGEST)
+    case("chain, chain4, memory_map, odd_even, shift_mode")
+    for mode, miscellaneous in (0, 0), (0x30, 6), (0x40, 9), (0x6F, 0x0C), (0xFF, 0xFF):
+        of_mode(mode, (6, miscellaneous))
+        calls((28,), (29,), (30,), (31,), (32,))
+    case("reset: of that record, of one with full counters, of one that no port can set")
+    for fields in (), range(15, 21), (2,):
+        calls(*((GC_FIELD, field, 2 ** 32 - 1) for field in fields), (27,), (DIGEST,))
+
+
+def addresses():
+    case("map_address: the windows' ends, chain odd/even, the page bit, the map without a window")
+    for miscellaneous, address, page in [
+            (0, 0x9FFFF, 0), (0, 0xA0000, 0), (0, 0xBFFFF, 0), (0, 0xC0000, 0), (2, 0xA0001, 0), (2, 0xA0001, 1), (2, 0xB0001, 0),
+            (2, 0xB0000, 0), (2, 0xA4000, 0), (4, 0x9FFFF, 0), (4, 0xA0000, 1), (4, 0xAFFFF, 0), (4, 0xB0000, 0), (6, 0xA0001, 0),
+            (6, 0xA0001, 1), (6, 0xA0000, 1), (8, 0xB0000, 0), (8, 0xA0000, 0), (12, 0xB7FFF, 0), (12, 0xB8000, 0), (12, 0xBFFFF, 1),
+            (12, 0xC0000, 0), (14, 0xB8001, 1), (0, 0, 0), (0, HUGE, 0), (4, HUGE + 0xA0000, 0)]:
+        call(27)
+        data((6, miscellaneous))
+        call(37, address, page)
+
+
+def modes():
+    case("mode 2, Bit Mask FF, Map Mask 7: document 01's case 11; then a read")
+    fill([0, 1], [0] * 4, 0)
+    masked(7)
+    of_mode(2, (8, 0xFF))
+    write(0xA0000, 5, 2, 0)
+    masked()
+    read(0xA0000)
+    case("mode 0, rotate 1, Xor, Bit Mask 3C, Enable 2, Set/Reset 2")
+    data((5, 0), (3, 0b11001), (8, 0x3C), (1, 2), (0, 2))
+    write(0xA0001, 0x2D, 2, 1)
+    for mode, address, byte in (1, 0xA0001, 0x81), (3, 0xA0000, 0xEE):
+        case(f"mode {mode}")
+        data((5, mode))
+        write(address, byte, 2, address - 0xA0000)
+    case("every mode with every function, latches AA, Bit Mask 3C, Set/Reset 1 on planes 0 and 3")
+    for mode in range(4):
+        for function in range(4):
+            fill([0], [0x55, 0x0F, 0x33, 0x00], 0x0E)
+            of_mode(mode, (3, function << 3 | 7), (8, 0x3C), (1, 9), (0, 1))
+            calls(*((GC_FIELD, 11 + plane, 0xAA) for plane in range(4)))
+            write(0xA0000, 0x86, 2, 0)
+    case("every rotation of 81: document 01's case 7 has 0, 1 and 7")
+    for count in range(8):
+        of_mode(0, (3, count), (8, 0xFF))
+        write(0xA0000, 0x81, 2, 0)
+
+
+def reads():
+    case("document 01's case 9: planes F0, CC, AA, 00, compare 3; Don't Care F, 3, 0")
+    fill([0], [0xF0, 0xCC, 0xAA, 0x00], 0)
+    fill([1], [1, 2, 3, 4], 0)
+    for care in 0x0F, 0x03, 0x00:
+        of_mode(8, (2, 3), (7, care))
+        read(0xA0000)
+    case("each map select, then each with GC odd/even: it has a0 for its low bit")
+    for mode in 0x00, 0x10:
+        for select in 2, 1, 0, 3:
+            of_mode(mode, (4, select))
+            read(0xA0000)
+            read(0xA0001)
+    case("a compare read with GC odd/even, and reads with chain-four: at the offset as it stands")
+    of_mode(0x18, (2, 3), (7, 15))
+    read(0xA0001)
+    masked(15, 12)
+    of_mode(0, (4, 1))
+    read(0xA0001)
+
+
+def masks():
+    lend_all(8)
+    case("Mode, Memory Mode, Map Mask: a write of 5A, Bit Mask FF, over a picture that does not match")
+    fill(range(8), [0] * 4, 0x0E)
+    every = [(gc, seq, 15, at) for gc in (0, 0x10) for seq in (0, 4, 8, 12) for at in (4, 5, 6, 7)]
+    for mode, memory_mode, map_mask, at in [(0, 12, 0, 5), (0, 0, 15, 1), (0, 0, 15, 2), (0x10, 4, 15, 3), (0x10, 4, 3, 0), (0, 4, 0, 0),
+                                            (0x10, 4, 10, 0), (0x10, 12, 15, 5), (0x10, 12, 15, 6), *every]:
+        case(f"Mode {mode}, Memory Mode {memory_mode}, Map Mask {map_mask}, offset {at}")
+        masked(map_mask, memory_mode)
+        of_mode(mode, (8, 0xFF))
+        stored = at - at % 4 if memory_mode & 8 else at
+        write(0xA0000 + at, 0x5A, 8, stored)
+        fill([stored], [0] * 4, 0x0E)
+
+
+def counters():
+    case("counters at 4,294,967,295: writes of modes 0 to 3, reads of modes 0 and 1")
+    lend_all(1)
+    masked()
+    for mode, writes in (0, True), (1, True), (2, True), (3, True), (0, False), (8, False):
+        of_mode(mode)
+        calls(*((GC_FIELD, counter, 2 ** 32 - 1) for counter in range(15, 21)))
+        call(*((40, 0xA0000, 0, 0) if writes else (38, 0xA0000, 0)))
+        calls((39, 0xA0000, 0), (DIGEST,))
+
+
+def outside():
+    case("outside the window and at an offset of n or more, whatever the mode and the mask: nothing moves")
+    lend_all(2)
+    fill([0, 1], [0x12, 0x34, 0x56, 0x78], 0x0E)
+    for mode, map_mask, address in [(0, 15, 0x9FFFF), (0, 15, 0xB0000), (0, 15, 0xA0002), (3, 15, 0xA0002), (0, 0, 0xAFFFF), (8, 15, HUGE)]:
+        masked(map_mask)
+        of_mode(mode)
+        calls((38, address, 0), (39, address, 0), (DIGEST,), (40, address, 0, 0x5A), (DIGEST,))
+    case("map B0000 has no window")
+    of_mode(0, (6, 8))
+    calls((38, 0xB0000, 0), (39, 0xB0000, 0), (40, 0xB0000, 0, 0x5A), (DIGEST,))
+    case("chain-four: the offset is judged before its low bits are cleared")
+    masked(15, 12)
+    of_mode(0)
+    calls((38, 0xA0002, 0), (39, 0xA0002, 0), (40, 0xA0002, 0, 0x5A), (DIGEST,))
+
+
+def shows():
+    case("shows in each shift mode: offsets 0, 1, n, 2^63")
+    masked()
+    calls(*((BYTE, 4, place, place) for place in range(16)))
+    for mode in 0x00, 0x20, 0x40, 0x60:
+        of_mode(mode)
+        calls((41, 0), (41, 1), (41, 2), (41, HUGE))
+    call(DIGEST)
+
+
+def on_memory():
+    """Read, peek, write, show."""
+    calls((38, 0xA0000, 0), (39, 0xA0000, 0), (40, 0xA0000, 0, 0xFF), (41, 0), (DIGEST,))
+
+
+def bad_record(field, value):
+    """The window A0000..AFFFF, a field as no port need have set it, latches 11, 22, 33, 44."""
+    call(27)
+    data((6, 4))
+    calls((GC_FIELD, field, value), *((GC_FIELD, 11 + plane, 0x11 * (plane + 1)) for plane in range(4)))
+
+
+def refusals():
+    lend_all(1)
+    fill([0], [0x12, 0x34, 0x56, 0x78], 0x0E)
+    for name, (field, value) in zip(NAMES, ABOVE):
+        case(f"{name} {value}: the five fields, the four ports, map_address; read, peek, write, show")
+        bad_record(field, value)
+        calls((28,), (29,), (30,), (31,), (32,), (33,), (34,), (35, 3), (36, 3), (37, 0xA0000, 0), (DIGEST,))
+        on_memory()
+        case(f"{name} {value - 1}")
+        bad_record(field, value - 1)
+        calls((28,), (33,), (34,), (37, 0xA0000, 0))
+        on_memory()
+        fill([0], [0x12, 0x34, 0x56, 0x78], 0x0E)
+    for name, register, most in zip(SEQ_NAMES, range(2, 7), AT_BOUND):
+        case(f"sequencer {name} {most + 1}: read, peek, write, show")
+        call(27)
+        data((6, 4))
+        masked()
+        call(SEQ_FIELD, register, most + 1)
+        on_memory()
+
+
+def lengths():
+    masked()
+    for lent in [(1, 1, 1, 1, 8), (2, 2, 2, 2, 16), (0, 0, 0, 0, 0), (2, 1, 1, 1, 8), (1, 2, 1, 1, 8), (1, 1, 2, 1, 8), (1, 1, 1, 2, 8),
+                 (1, 1, 1, 1, 7), (1, 1, 1, 1, 9), (65537, 65537, 65537, 65537, 524296), (65536, 65536, 65536, 65536, 524288)]:
+        case(f"lengths {' '.join(map(str, lent))}: read, peek, write, show")
+        lend(*lent)
+        fill([0, 1], [0x12, 0x34, 0x56, 0x78], 0x0E)
+        call(27)
+        data((6, 4))
+        on_memory()
+    case("n 65,536, at its end")
+    calls((40, 0xAFFFF, 0, 0xFF), (38, 0xAFFFF, 0), (39, 0xAFFFF, 0), (41, 65535), (41, 65536), (DIGEST,))
+
+
+def orders():
+    case("more than one at once: 6 before 1, 1 before 9, 9 before 5, 1 before 2, 2 before 3")
+    lend(2, 2, 1, 2, 16)
+    bad_record(2, 16)
+    calls((38, 0, 0), (40, 0, 0, 0), (41, 2))
+    of_mode(0x20)
+    calls((38, 0, 0), (39, 0, 0), (40, 0, 0, 0), (41, 2))
+    lend_all(2)
+    calls((41, 2), (38, 0xB0002, 0), (40, 0xB0002, 0, 0), (39, 0xB0002, 0), (DIGEST,))
+
+
+PARTS = ports, addresses, modes, reads, masks, counters, outside, shows, refusals, lengths, orders

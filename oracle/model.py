@@ -1,0 +1,298 @@
+#!/usr/bin/env python3
+"""Document 01 once more, bit by bit: reads a list of calls on standard input and prints a line for each, as oracle/README.md says. It
+shares no text with the port; oracle/make-cases makes the expected lines of the lists of cases with it."""
+import re
+import sys
+from functools import partial
+from itertools import accumulate
+
+# the controller's record, in the order of the digest: 0 address, 1 selected register, 2 to 10 registers, 11 to 14 latches, 15 to 20 counters
+ADDRESS, SELECTED, SET_RESET, ENABLE, COMPARE, ROTATE, MAP_SELECT, MODE, MISCELLANEOUS, DONT_CARE, BIT_MASK, LATCHES = range(12)
+COUNTERS = 15
+# the sequencer's record: its address and selected register have the same places
+_, CLOCKING, MAP_MASK, _, MEMORY_MODE, MARK, DIVISOR, CLOCK = range(2, 10)
+INVALID = 5
+# the greatest value that each register can hold
+GC_MOST = [15, 15, 15, 255, 3, 255, 255, 15, 255]
+SEQ_MOST = [3, 63, 15, 63, 63]
+CGA, CHAIN4 = 1, 2
+# set, and, or
+STORES = [lambda old, byte: byte, lambda old, byte: old & byte, lambda old, byte: old | byte]
+GC_START, SEQ_START = [0] * 21, [0] * 8 + [1, 9]
+
+
+class Refused(Exception):
+    """A refusal, with its number."""
+
+
+def refuse_if(condition, number):
+    if condition:
+        raise Refused(number)
+
+
+def bit(number, i):
+    return number >> i & 1
+
+
+class Model:
+    def __init__(self):
+        self.gc, self.seq = list(GC_START), list(SEQ_START)
+        # planes 0 to 3 and the picture: one byte a plane more than is accepted, and one pixel more than goes with that
+        self.memory = [bytearray(65537) for _ in range(4)] + [bytearray(8 * 65537 + 1)]
+        self.lent = [65536] * 4 + [8 * 65536]
+
+    # refusals
+    def judge_gc(self):
+        refuse_if(self.gc[ADDRESS] > 15 or any(value > most for value, most in zip(self.gc[2:11], GC_MOST)), 6)
+
+    def judge_seq(self):
+        refuse_if(any(value > most for value, most in zip(self.seq[2:7], SEQ_MOST)), 6)
+
+    def judge_memory(self):
+        n = self.lent[0]
+        refuse_if(self.lent != [n] * 4 + [8 * n] or not 1 <= n <= 65536, 1)
+
+    def judge_offset(self, offset):
+        refuse_if(offset >= self.lent[0], 3)
+
+    def judge_plane(self, plane, offset):
+        self.judge_memory()
+        refuse_if(plane > 3, 4)
+        self.judge_offset(offset)
+
+    # memory by plane and by pixel
+    def read_u8(self, plane, offset):
+        self.judge_plane(plane, offset)
+        return self.memory[plane][offset]
+
+    def read_linear(self, place):
+        self.judge_memory()
+        refuse_if(place >= 8 * self.lent[0], 5)
+        return self.memory[4][place]
+
+    def serialize_linear(self, offset):
+        self.judge_memory()
+        refuse_if(offset >= self.lent[0], 5)
+        return "".join(f"{pixel % 16:X}" for pixel in self.memory[4][8 * offset:8 * offset + 8])
+
+    def remake(self, offset):
+        for i in range(8):
+            self.memory[4][8 * offset + i] = sum(bit(self.memory[p][offset], 7 - i) << p for p in range(4))
+
+    def store(self, plane, offset, byte):
+        self.memory[plane][offset] = byte
+        self.remake(offset)
+
+    def vram_store(self, how, plane, offset, byte):
+        self.judge_plane(plane, offset)
+        self.store(plane, offset, STORES[how](self.memory[plane][offset], byte % 256))
+
+    def deplane(self, offset):
+        self.judge_memory()
+        self.judge_offset(offset)
+        self.remake(offset)
+
+    # the sequencer's ports
+    def seq_field(self, field):
+        self.judge_seq()
+        return self.seq[field]
+
+    def set_mark(self):
+        self.judge_seq()
+        self.seq[MARK] = 1
+
+    def poll(self):
+        mark, self.seq[MARK] = self.seq_field(MARK), 0
+        return mark
+
+    def seq_data(self):
+        selected = self.seq_field(SELECTED)
+        return 255 if selected == INVALID else self.seq[2 + selected]
+
+    def write_seq_address(self, byte):
+        self.judge_seq()
+        self.seq[ADDRESS] = byte % 256
+        self.seq[SELECTED] = min(byte % 256, INVALID)
+
+    def write_seq_data(self, byte):
+        selected = self.seq_field(SELECTED)
+        if selected != INVALID:
+            self.seq[2 + selected] = byte % 64 & SEQ_MOST[selected]
+        if 2 + selected == CLOCKING:
+            self.seq[MARK], self.seq[DIVISOR] = 1, 2 if bit(byte, 3) else 1
+            self.seq[CLOCK] = self.seq[DIVISOR] * (8 if bit(byte, 0) else 9)
+
+    # the sequencer's direct calls
+    def chain_four(self):
+        return bit(self.seq[MEMORY_MODE], 3) == 1
+
+    def gc_read(self, plane, offset):
+        # as the Rust's text: document 01 says nothing of it
+        self.judge_seq()
+        self.judge_plane(plane, offset)
+        return self.memory[plane][offset - offset % 4 if bit(self.seq[MEMORY_MODE], 2) and self.chain_four() else offset]
+
+    def masked(self, plane, offset, a0):
+        """Whether a visited plane is stored."""
+        if self.chain_four():
+            return plane == offset % 4
+        return bit(self.seq[MAP_MASK] & (15 if bit(self.seq[MEMORY_MODE], 2) else 5 << a0), plane) == 1
+
+    def seq_store(self, how, plane, offset, a0, byte):
+        self.judge_seq()
+        self.judge_plane(plane, offset)
+        if self.masked(plane, offset, int(a0 == 1)):
+            at = offset - offset % 4 if self.chain_four() else offset
+            self.store(plane, at, STORES[how](self.memory[plane][at], byte % 256))
+
+    # the controller's ports
+    def gc_field(self, field):
+        self.judge_gc()
+        return self.gc[field]
+
+    def map_number(self):
+        return self.gc_field(MISCELLANEOUS) >> 2 & 3
+
+    def shift_mode(self):
+        return self.gc_field(MODE) >> 5 & 3
+
+    def write_gc_address(self, byte):
+        self.judge_gc()
+        self.gc[ADDRESS] = byte & 15
+        if byte & 15 <= 8:
+            self.gc[SELECTED] = byte & 15
+
+    def write_gc_data(self, byte):
+        selected = self.gc_field(SELECTED)
+        self.gc[2 + selected] = byte % 256 & GC_MOST[selected]
+
+    # the processor's accesses
+    def map_address(self, address, page):
+        self.judge_gc()
+        first, last = [(0xA0000, 0xBFFFF), (0xA0000, 0xAFFFF), (1, 0), (0xB8000, 0xBFFFF)][self.map_number()]
+        refuse_if(not first <= address <= last, 2)
+        offset = address if self.map_number() == 0 else address - first
+        if bit(self.gc[MISCELLANEOUS], 1) and self.map_number() < 2:
+            low = int(page == 1) if self.map_number() == 1 else bit(address, 16 if address > 0xFFFF else 14)
+            offset = offset - offset % 2 + low
+        return offset % 65536, address % 2
+
+    def accepted(self, address, page):
+        self.judge_gc()
+        self.judge_seq()
+        self.judge_memory()
+        offset, a0 = self.map_address(address, page)
+        self.judge_offset(offset)
+        return offset, a0
+
+    def count(self, which):
+        self.gc[COUNTERS + which] = (self.gc[COUNTERS + which] + 1) % 2 ** 32
+
+    def cpu_read(self, address, page):
+        offset, a0 = self.accepted(address, page)
+        latches = self.gc[LATCHES:COUNTERS] = [self.memory[p][offset] for p in range(4)]
+        compares = bit(self.gc[MODE], 3)
+        self.count(4 + compares)
+        if compares:
+            cared = [p for p in range(4) if bit(self.gc[DONT_CARE], p)]
+            return sum(all(bit(latches[p], i) == bit(self.gc[COMPARE], p) for p in cared) << i for i in range(8))
+        select = self.gc[MAP_SELECT]
+        return latches[select - select % 2 + a0 if bit(self.gc[MODE], 4) else select]
+
+    def cpu_write(self, address, page, byte):
+        offset, a0 = self.accepted(address, page)
+        mode = self.gc[MODE] % 4
+        self.count(mode)
+        visited = [a0, 2 + a0] if bit(self.gc[MODE], 4) else range(4)
+        at = offset - offset % 4 if self.chain_four() else offset
+        for plane in visited:
+            if mode != 3 and self.masked(plane, offset, a0):
+                self.store(plane, at, self.written(mode, plane, byte % 256))
+
+    def written(self, mode, plane, byte):
+        """The byte that a plane gets."""
+        latch = self.gc[LATCHES + plane]
+        if mode == 1:
+            return latch
+        data = 255 * bit(byte, plane) if mode == 2 else self.mode_0_data(plane, byte)
+        joined = [data, data & latch, data | latch, data ^ latch][self.gc[ROTATE] >> 3 & 3]
+        return sum(bit(joined if bit(self.gc[BIT_MASK], i) else latch, i) << i for i in range(8))
+
+    def mode_0_data(self, plane, byte):
+        if bit(self.gc[ENABLE], plane):
+            return 255 * bit(self.gc[SET_RESET], plane)
+        return sum(bit(byte, (i + self.gc[ROTATE] % 8) % 8) << i for i in range(8))
+
+    def serialize(self, offset):
+        self.judge_gc()
+        self.judge_seq()
+        self.judge_memory()
+        refuse_if(self.shift_mode() in (CGA, CHAIN4), 9)
+        return self.serialize_linear(offset)
+
+    # what no port and no call does
+    def put_gc_field(self, field, value):
+        if field < 21 and (field != SELECTED or value % 256 <= 8):
+            self.gc[field] = value % (256 if field < COUNTERS else 2 ** 32)
+
+    def put_seq_field(self, field, value):
+        if field == MARK:
+            self.seq[MARK] = int(value % 256 == 1)
+        elif field < 10 and (field != SELECTED or value % 256 <= INVALID):
+            self.seq[field] = value % (256 if field < MARK else 2 ** 32)
+
+    def put_byte(self, which, place, byte):
+        if which < 5 and place < len(self.memory[which]):
+            self.memory[which][place] = byte % 256
+
+    def put_length(self, which, length):
+        if which < 5:
+            self.lent[which] = min(length, len(self.memory[which]))
+
+    # the digest
+    def digest(self):
+        sums = [list(accumulate(self.memory[which][:self.lent[which]], initial=1)) for which in range(5)]
+        checksums = sum(([first[-1] % 2 ** 32, sum(first[1:]) % 2 ** 32] for first in sums), [])
+        return self.gc[:11] + self.seq + self.gc[11:] + checksums
+
+
+def reset(record, start):
+    record[:] = start
+
+
+def operations(m):
+    """The calls by number, each with how many arguments it takes."""
+    def of_seq(call):
+        return lambda *arguments: m.judge_seq() or call(*arguments)
+    return [
+        (m.digest, 0), (m.read_u8, 2), (m.read_u8, 2), (partial(m.read_u8, 2), 1), (m.read_linear, 1), (m.serialize_linear, 1),
+        *((partial(m.vram_store, how), 3) for how in (0, 0, 1, 2)), (m.deplane, 1),
+        (partial(reset, m.seq, SEQ_START), 0), (partial(m.seq_field, CLOCK), 0), (m.set_mark, 0), (m.poll, 0), (partial(m.seq_field, ADDRESS), 0),
+        (m.seq_data, 0), (m.write_seq_address, 1), (m.write_seq_data, 1), (of_seq(m.read_u8), 2), (of_seq(m.read_u8), 2), (m.gc_read, 2),
+        (of_seq(m.read_linear), 1), (of_seq(m.serialize_linear), 1), *((partial(m.seq_store, how), 4) for how in (0, 1, 2)),
+        (partial(reset, m.gc, GC_START), 0), (lambda: bit(m.gc_field(MISCELLANEOUS), 1), 0), (lambda: int(m.shift_mode() == CHAIN4), 0),
+        (m.map_number, 0), (lambda: bit(m.gc_field(MODE), 4), 0), (m.shift_mode, 0), (partial(m.gc_field, ADDRESS), 0),
+        (lambda: m.gc[2 + m.gc_field(SELECTED)], 0), (m.write_gc_address, 1), (m.write_gc_data, 1), (m.map_address, 2), (m.cpu_read, 2),
+        (lambda address, page: m.memory[0][m.accepted(address, page)[0]], 2), (m.cpu_write, 3), (m.serialize, 1),
+        (m.put_gc_field, 2), (m.put_seq_field, 2), (m.put_byte, 3), (m.put_length, 2),
+    ]
+
+
+def line(call, arguments, refused_value):
+    """The answer and the value of a call, as text."""
+    try:
+        value = call(*arguments) or 0
+    except Refused as refused:
+        return f"{refused.args[0]} {refused_value}"
+    return "0 " + (" ".join(map(str, value)) if isinstance(value, (list, tuple)) else str(value))
+
+
+def main():
+    calls = operations(Model())
+    rows = ([int(digits) % 2 ** 64 for digits in re.findall("[0-9]+", text.split("#")[0])] for text in sys.stdin)
+    for number, (operation, *arguments) in enumerate(filter(None, rows), 1):
+        call, count = calls[operation]
+        print(number, operation, line(call, (arguments + [0] * 4)[:count], "0 0" if operation == 37 else "0"))
+
+
+main()
