@@ -113,6 +113,7 @@ fn least(length: usize, room: usize) -> usize
     if length < room { length } else { room }
 }
 
+// The call itself, on what is lent.
 fn made(
     session: Session,
     call: Call,
@@ -131,7 +132,7 @@ fn made(
     with_controller(session, call.operation, left)
 }
 
-// A call that leaves memory as it is: the digest, a call on a record alone, or a read.
+// A call that leaves memory as it is: the digest, a setting, a call on a record alone, or a read.
 fn asked(
     session: Session,
     call: Call,
