@@ -1,14 +1,6 @@
 // Runs a list of calls through the port and prints a line for each. Every program of lists runs this very engine.
-mod digest;
-mod graphics_call;
-mod line;
-mod memory_call;
-mod print;
-mod said;
-mod sequencer_call;
 mod session;
 mod settings;
-mod store_call;
 
 use libc::STDIN_FILENO;
 use session::Session;

@@ -1,17 +1,17 @@
 // A session: both records, how much memory is lent, the line that is being read, and how many calls there were.
 ghost use Prim.Native.Nat.{_≤_};
-use crate::digest;
-use crate::graphics_call;
-use crate::graphics_call::GraphicsLeft;
-use crate::line::Call;
-use crate::line::Line;
-use crate::memory_call;
-use crate::print;
-use crate::said;
-use crate::said::Said;
-use crate::sequencer_call;
 use crate::settings;
-use crate::store_call;
+use list_calls::graphics_call;
+use list_calls::graphics_call::GraphicsLeft;
+use list_calls::memory_call;
+use list_calls::sequencer_call;
+use list_calls::store_call;
+use list_lines::digest;
+use list_lines::line::Call;
+use list_lines::line::Line;
+use list_lines::print;
+use list_lines::said;
+use list_lines::said::Said;
 use machine::GraphicsController;
 use machine::Sequencer;
 use machine::Shape;

@@ -1,7 +1,7 @@
 // What no port and no call of the Rust does, for cases that ports cannot reach: any value in a field of a record, any byte in memory, any
 // length lent. Fields are numbered in the order of the digest; a field or a register of none changes nothing.
-use crate::line::Call;
-use crate::store_call::byte;
+use list_lines::line::Call;
+use list_lines::line::byte;
 use machine::GraphicsController;
 use machine::GraphicsControllerStats;
 use machine::GraphicsRegisters;

@@ -1,10 +1,10 @@
 // Calls that read memory, of each layer.
 use crate::graphics_call::GraphicsLeft;
-use crate::line::Call;
-use crate::said;
-use crate::said::Said;
 use graphics_controller::cpu_peek_u8;
 use graphics_controller::cpu_read_u8;
+use list_lines::line::Call;
+use list_lines::said;
+use list_lines::said::Said;
 use machine::GraphicsController;
 use machine::PixelPlace;
 use machine::PlaneOffset;

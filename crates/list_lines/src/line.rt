@@ -96,3 +96,8 @@ fn with_digit(number: usize, digit: u8) -> usize {
     let ten_times = wrapping_add_usize(number << 3, number << 1);
     wrapping_add_usize(ten_times, digit as usize)
 }
+
+// An argument as a byte.
+pub fn byte(n: usize) -> u8 {
+    (n % 256) as u8
+}

@@ -2,8 +2,8 @@
 use Prim.Native.Nat.{_≤_, _-_}
 use lib.ListN.{length}
 use borrow.Author.Needs.{needs}
-use Rattle.call_lists.proofs.print.numbers.Statement.{statement}
-use Rattle.call_lists.proofs.print.numbers.Tie as tie
+use Rattle.list_lines.proofs.print.numbers.Statement.{statement}
+use Rattle.list_lines.proofs.print.numbers.Tie as tie
 
 abbrev Inv-loop : tie.InvT-loop
 Inv-loop out₀ at list next₀ i₀ out next i = i ≤ length list

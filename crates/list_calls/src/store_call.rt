@@ -1,10 +1,11 @@
 // Calls that store, of each layer.
 use crate::graphics_call::GraphicsLeft;
-use crate::line::Call;
-use crate::said::Said;
-use crate::said::done;
-use crate::said::store;
 use graphics_controller::cpu_write_u8;
+use list_lines::line::Call;
+use list_lines::line::byte;
+use list_lines::said::Said;
+use list_lines::said::done;
+use list_lines::said::store;
 use machine::GraphicsController;
 use machine::PlaneOffset;
 use machine::Sequencer;
@@ -17,10 +18,6 @@ pub fn is_store(operation: usize) -> bool {
         6..=10 | 24..=26 | 40 => true,
         _ => false,
     }
-}
-
-pub fn byte(n: usize) -> u8 {
-    (n % 256) as u8
 }
 
 pub fn stores(

@@ -2,8 +2,8 @@
 use native.Mathlib.Omega.{arith}
 use lib.ListN.{length-take}
 use borrow.Author.Needs.{needs}
-use Rattle.call_lists.proofs.print.send.Statement.{statement}
-use Rattle.call_lists.proofs.print.send.Tie as tie
+use Rattle.list_lines.proofs.print.send.Statement.{statement}
+use Rattle.list_lines.proofs.print.send.Tie as tie
 
 slice-aggregate-write-all : tie.Need-slice-aggregate-write-all
 slice-aggregate-write-all c = simp length-take (omega arith)

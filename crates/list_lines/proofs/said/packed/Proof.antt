@@ -2,8 +2,8 @@
 use Prim.Native.Nat.{_≤_, _-_}
 use lib.ListN.{length}
 use borrow.Author.Needs.{needs}
-use Rattle.call_lists.proofs.said.packed.Statement.{statement}
-use Rattle.call_lists.proofs.said.packed.Tie as tie
+use Rattle.list_lines.proofs.said.packed.Statement.{statement}
+use Rattle.list_lines.proofs.said.packed.Tie as tie
 
 abbrev Inv-loop : tie.InvT-loop
 Inv-loop pixels shown₀ i₀ shown i = i ≤ length pixels

@@ -1,8 +1,8 @@
 // Calls on the sequencer's record: the record as it is left, and the answer.
-use crate::line::Call;
-use crate::said;
-use crate::said::Said;
-use crate::store_call::byte;
+use list_lines::line::Call;
+use list_lines::line::byte;
+use list_lines::said;
+use list_lines::said::Said;
 use machine::Sequencer;
 use machine::SequencerDone;
 
