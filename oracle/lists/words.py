@@ -20,6 +20,17 @@ def calls(*rows):
         call(*row)
 
 
+def count():
+    """How many calls there are so far."""
+    return sum(not line.startswith("#") for line in lines)
+
+
+def fresh(crate):
+    """Both records at their start, for the cases of a crate."""
+    case(f"---- {crate}")
+    calls((11,), (27,))
+
+
 def lend(*lengths):
     calls(*((LENGTH, which, length) for which, length in enumerate(lengths)))
 
