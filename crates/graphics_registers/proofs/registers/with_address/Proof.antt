@@ -11,7 +11,7 @@ selected-requires c κs = search needs
 returns : tie.Need-returns
 unfolding withAddress
 returns c =
-    rw (c .selected .ensures, and-mask (c .before .args .byte) 4)
+    simp (c .selected .ensures, and-mask (c .before .args .byte) 4)
 
 pub with-address-spec : {M : Type 1} → statement M
 with-address-spec = tie.close (tie.spec selected-requires returns)
