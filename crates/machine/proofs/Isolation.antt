@@ -194,7 +194,7 @@ module _ (k : ℕ) where
       agrees-same care colour i p clear = go (ℕ-discrete p k)
         where
           go : Dec (p ≡ k) → agrees care colour l i p ≡ agrees care colour u i p
-          go (yes e) = rw (e, clear)
+          go (yes e) = simp (e, clear)
           go (no ne) = rw (v p ne)
 
       compared-same : (care colour : ℕ) → bit k care ≡ 0 → compared care colour l ≡ compared care colour u
