@@ -52,7 +52,7 @@ unfoldable pub sound : Shape → Bool
 sound h = ltb 0 (size h) && (leb (size h) 65536 && (eqb (h .p1) (size h) && (eqb (h .p2) (size h)
     && (eqb (h .p3) (size h) && eqb (h .picture) (8 * size h)))))
 
--- the same as facts
+-- not refusal 1, as facts: a field for each of its words
 pub record Sound (h : Shape) : Type 0 where
   pub some : 0 < size h
   pub most : size h ≤ 65536
