@@ -1,4 +1,4 @@
-// A record's line: its number, its operation, the answer's number, its value.
+// A record's line, into a slice that has room for it: its number, its operation, the answer's number, its value.
 ghost use Prim.Native.Nat.{_+_, _≤_};
 ghost use lib.ListN.{length};
 ghost use Rattle.tape_machine.specs.Told.{handedValue, toldSaid};

@@ -1,8 +1,8 @@
 -- `four_digits` writes two and two.
 use borrow.Author.Needs.{needs}
-use Rattle.tape_reader.proofs.Texts.{put-then}
-use Rattle.tape_reader.proofs.text.four_digits.Statement.{statement}
-use Rattle.tape_reader.proofs.text.four_digits.Tie as tie
+use Rattle.tape_lines.proofs.Texts.{put-then}
+use Rattle.tape_lines.proofs.text.four_digits.Statement.{statement}
+use Rattle.tape_lines.proofs.text.four_digits.Tie as tie
 
 two-digits-requires : tie.Need-two-digits-requires
 two-digits-requires c κs = search needs

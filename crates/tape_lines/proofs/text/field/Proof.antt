@@ -3,9 +3,9 @@ use borrow.Author.Needs.{needs}
 use mathlib.Core.List.{[], _∷_}
 use native.Mathlib.Omega.{arith}
 use Rattle.tape_machine.specs.Text.{decimalOf, fieldOf}
-use Rattle.tape_reader.proofs.Texts.{put-then, put-room, first-room}
-use Rattle.tape_reader.proofs.text.field.Statement.{statement}
-use Rattle.tape_reader.proofs.text.field.Tie as tie
+use Rattle.tape_lines.proofs.Texts.{put-then, put-room, first-room}
+use Rattle.tape_lines.proofs.text.field.Statement.{statement}
+use Rattle.tape_lines.proofs.text.field.Tie as tie
 
 decimal-requires : tie.Need-decimal-requires
 unfolding fieldOf

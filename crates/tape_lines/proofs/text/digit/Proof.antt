@@ -3,9 +3,9 @@ use borrow.Author.Needs.{needs}
 use borrow.Author.Tests.{lt-ltb, le-ltb}
 use lib.Bits.{and-le-r}
 use native.Mathlib.Omega.{arith}
-use Rattle.tape_reader.proofs.Texts.{hex-so}
-use Rattle.tape_reader.proofs.text.digit.Statement.{statement}
-use Rattle.tape_reader.proofs.text.digit.Tie as tie
+use Rattle.tape_lines.proofs.Texts.{hex-so}
+use Rattle.tape_lines.proofs.text.digit.Statement.{statement}
+use Rattle.tape_lines.proofs.text.digit.Tie as tie
 
 add-result : tie.Need-add-result
 add-result c = search needs

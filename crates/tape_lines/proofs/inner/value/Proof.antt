@@ -1,8 +1,8 @@
 -- `value` writes a byte, eight digits or 0: from the arm that was taken.
 use borrow.Author.Needs.{needs}
 use Rattle.tape_machine.specs.Lines.{valueOf}
-use Rattle.tape_reader.proofs.line.value.Statement.{statement}
-use Rattle.tape_reader.proofs.line.value.Tie as tie
+use Rattle.tape_lines.proofs.inner.value.Statement.{statement}
+use Rattle.tape_lines.proofs.inner.value.Tie as tie
 
 enum-known-handed : tie.Need-enum-known-handed
 enum-known-handed c = search needs

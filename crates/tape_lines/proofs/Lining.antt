@@ -7,7 +7,7 @@ use Rattle.machine.specs.Answers.{Said}
 use Rattle.tape_records.specs.declared.records.Operation.{Operation}
 use Rattle.tape_machine.specs.Text.{fieldOf, Put}
 use Rattle.tape_machine.specs.Lines.{nameOf, valueOf, lineOf}
-use Rattle.tape_reader.proofs.Texts.{put-then, put-room, first-room}
+use Rattle.tape_lines.proofs.Texts.{put-then, put-room, first-room}
 
 -- what follows the third part, the second, the first
 abbrev rest3 : Said → List ℕ

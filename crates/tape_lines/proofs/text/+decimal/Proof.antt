@@ -8,13 +8,13 @@ use mathlib.Core.List.{[], _∷_}
 use mathlib.Core.Path.{ap, _∙_}
 use native.Mathlib.Omega.{arith}
 use Rattle.tape_machine.specs.Text.{decimalOf}
-use Rattle.tape_reader.proofs.Texts.{put-then, put-room, first-room, decimal-small, decimal-more}
-use Rattle.tape_reader.proofs.text.+decimal.Lts-decimal as decimal-lts
-use Rattle.tape_reader.proofs.text.+decimal.Tie.{close}
-use Rattle.tape_reader.proofs.text.+decimal.{statement}
-use Rattle.tape_reader.proofs.text.decimal.Kinds as decimal-kinds
-use Rattle.tape_reader.proofs.text.decimal.Reads as decimal
-use Rattle.tape_reader.proofs.text.put.Reads as put-reads
+use Rattle.tape_lines.proofs.Texts.{put-then, put-room, first-room, decimal-small, decimal-more}
+use Rattle.tape_lines.proofs.text.+decimal.Lts-decimal as decimal-lts
+use Rattle.tape_lines.proofs.text.+decimal.Tie.{close}
+use Rattle.tape_lines.proofs.text.+decimal.{statement}
+use Rattle.tape_lines.proofs.text.decimal.Kinds as decimal-kinds
+use Rattle.tape_lines.proofs.text.decimal.Reads as decimal
+use Rattle.tape_lines.proofs.text.put.Reads as put-reads
 
 abbrev μ-decimal : Measures 1 decimal-kinds.ps ℕ
 μ-decimal κs a = a .0

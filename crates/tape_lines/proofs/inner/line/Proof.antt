@@ -1,9 +1,9 @@
 -- `line` writes the five parts of a line: from `Lining`.
 use borrow.Author.Needs.{needs}
 use Rattle.tape_machine.specs.Told.{toldSaid}
-use Rattle.tape_reader.proofs.Lining.{room1, room2, room3, room4, room5, line-so}
-use Rattle.tape_reader.proofs.line.line.Statement.{statement}
-use Rattle.tape_reader.proofs.line.line.Tie as tie
+use Rattle.tape_lines.proofs.Lining.{room1, room2, room3, room4, room5, line-so}
+use Rattle.tape_lines.proofs.inner.line.Statement.{statement}
+use Rattle.tape_lines.proofs.inner.line.Tie as tie
 
 cast-answer : tie.Need-cast-answer
 cast-answer c = search needs

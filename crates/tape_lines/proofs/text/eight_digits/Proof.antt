@@ -1,8 +1,8 @@
 -- `eight_digits` writes four and four.
 use borrow.Author.Needs.{needs}
-use Rattle.tape_reader.proofs.Texts.{put-then}
-use Rattle.tape_reader.proofs.text.eight_digits.Statement.{statement}
-use Rattle.tape_reader.proofs.text.eight_digits.Tie as tie
+use Rattle.tape_lines.proofs.Texts.{put-then}
+use Rattle.tape_lines.proofs.text.eight_digits.Statement.{statement}
+use Rattle.tape_lines.proofs.text.eight_digits.Tie as tie
 
 four-digits-requires : tie.Need-four-digits-requires
 four-digits-requires c κs = search needs

@@ -1,8 +1,8 @@
 -- `two_digits` writes one digit after another.
 use borrow.Author.Needs.{needs}
-use Rattle.tape_reader.proofs.Texts.{put-then}
-use Rattle.tape_reader.proofs.text.two_digits.Statement.{statement}
-use Rattle.tape_reader.proofs.text.two_digits.Tie as tie
+use Rattle.tape_lines.proofs.Texts.{put-then}
+use Rattle.tape_lines.proofs.text.two_digits.Statement.{statement}
+use Rattle.tape_lines.proofs.text.two_digits.Tie as tie
 
 digit-requires : tie.Need-digit-requires
 digit-requires c κs = search needs
