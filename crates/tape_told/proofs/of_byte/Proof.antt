@@ -1,7 +1,7 @@
 -- `of_byte` says what a read's answer says: from the arm that was taken.
 use borrow.Author.Needs.{needs}
-use Rattle.tape_calls.proofs.told.of_byte.Statement.{statement}
-use Rattle.tape_calls.proofs.told.of_byte.Tie as tie
+use Rattle.tape_told.proofs.of_byte.Statement.{statement}
+use Rattle.tape_told.proofs.of_byte.Tie as tie
 
 enum-known-answer : tie.Need-enum-known-answer
 enum-known-answer c = search needs

@@ -3,8 +3,8 @@ use Prim.Native.Nat.{ℕ}
 use borrow.Author.Needs.{needs}
 use mathlib.Core.Path.{ap}
 use Rattle.machine.specs.Answers.{said, one}
-use Rattle.tape_calls.proofs.told.refused.Statement.{statement}
-use Rattle.tape_calls.proofs.told.refused.Tie as tie
+use Rattle.tape_told.proofs.refused.Statement.{statement}
+use Rattle.tape_told.proofs.refused.Tie as tie
 
 refusal-number-requires : tie.Need-refusal-number-requires
 refusal-number-requires c κs = search needs

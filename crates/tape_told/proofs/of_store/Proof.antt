@@ -1,7 +1,7 @@
 -- `of_store` says what a store's answer says: from the arm that was taken.
 use borrow.Author.Needs.{needs}
-use Rattle.tape_calls.proofs.told.of_store.Statement.{statement}
-use Rattle.tape_calls.proofs.told.of_store.Tie as tie
+use Rattle.tape_told.proofs.of_store.Statement.{statement}
+use Rattle.tape_told.proofs.of_store.Tie as tie
 
 enum-told : tie.Need-enum-told
 enum-told c = search needs
