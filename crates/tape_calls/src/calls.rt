@@ -6,7 +6,6 @@ ghost use Rattle.machine.specs.Calls.{cpuRead, cpuPeek, cpuWrite, serialize};
 ghost use Rattle.machine.specs.Step.{state, cpu, step};
 ghost use Rattle.tape_machine.specs.Told.{toldSaid, handedOf};
 ghost use Rattle.tape_machine.specs.Performs.{performed};
-use crate::told;
 use machine::DoneAnswer;
 use machine::GraphicsController;
 use machine::GraphicsDone;
@@ -31,7 +30,7 @@ fn graphics_done(done: GraphicsDone, seq: Sequencer) -> Performed
     let answer = done.answer;
     let gc = done.gc;
     Performed {
-        told: told::of_done(answer),
+        told: tape_told::of_done(answer),
         gc,
         seq,
     }
@@ -43,7 +42,7 @@ fn sequencer_done(gc: GraphicsController, done: SequencerDone) -> Performed
     let answer = done.answer;
     let seq = done.seq;
     Performed {
-        told: told::of_done(answer),
+        told: tape_told::of_done(answer),
         gc,
         seq,
     }
@@ -66,7 +65,7 @@ fn read(
     let answer = got.answer;
     let next = got.gc;
     Performed {
-        told: told::of_byte(answer),
+        told: tape_told::of_byte(answer),
         gc: next,
         seq,
     }
@@ -87,7 +86,7 @@ fn peek(
 {
     let answer = graphics_controller::cpu_peek_u8(gc, seq, p0, p1, p2, p3, picture, address, page);
     Performed {
-        told: told::of_byte(answer),
+        told: tape_told::of_byte(answer),
         gc,
         seq,
     }
@@ -122,7 +121,7 @@ fn write(
     let answer = wrote.answer;
     let next = wrote.gc;
     Performed {
-        told: told::of_store(answer),
+        told: tape_told::of_store(answer),
         gc: next,
         seq,
     }
@@ -195,7 +194,7 @@ pub fn perform(
 {
     match command {
         Command::Reset => Performed {
-            told: told::of_done(DoneAnswer::Done),
+            told: tape_told::of_done(DoneAnswer::Done),
             gc: graphics_controller::reset(gc),
             seq: sequencer::reset(seq),
         },

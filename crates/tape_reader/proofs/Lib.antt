@@ -1,4 +1,2 @@
-pub mod Texts
-pub mod Lining
 pub mod Runs
 pub mod Determined

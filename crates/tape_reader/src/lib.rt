@@ -1,6 +1,4 @@
-// The tape: each record's line; a whole tape run.
-mod line;
-mod text;
+// The tape: a whole tape run.
 mod whole;
 
 pub use tape_calls::Performed;
