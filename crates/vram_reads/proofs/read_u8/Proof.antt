@@ -7,9 +7,9 @@ use Rattle.machine.specs.Calls.{vramPlan}
 use Rattle.machine.specs.Deeds.{memoryAfter, valueOf}
 use Rattle.machine.specs.Answers.{one}
 use Rattle.memory_judges.proofs.Told.{as-told}
-use Rattle.vram.proofs.Laws.{plane-asked}
-use Rattle.vram.proofs.read_u8.Statement.{statement}
-use Rattle.vram.proofs.read_u8.Tie as tie
+use Rattle.vram_reads.proofs.Laws.{plane-asked}
+use Rattle.vram_reads.proofs.read_u8.Statement.{statement}
+use Rattle.vram_reads.proofs.read_u8.Tie as tie
 
 judge-plane-requires : tie.Need-judge-plane-requires
 judge-plane-requires c κs = search needs

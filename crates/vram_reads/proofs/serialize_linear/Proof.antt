@@ -7,8 +7,8 @@ use Rattle.machine.specs.Step.{vramStep}
 use Rattle.machine.specs.Calls.{vramPlan}
 use Rattle.machine.specs.Deeds.{memoryAfter, valueOf}
 use Rattle.memory_judges.proofs.Told.{as-told}
-use Rattle.vram.proofs.serialize_linear.Statement.{statement}
-use Rattle.vram.proofs.serialize_linear.Tie as tie
+use Rattle.vram_reads.proofs.serialize_linear.Statement.{statement}
+use Rattle.vram_reads.proofs.serialize_linear.Tie as tie
 
 judge-shown-requires : tie.Need-judge-shown-requires
 judge-shown-requires c κs = search needs

@@ -2,8 +2,8 @@
 use borrow.Author.Needs.{needs}
 use Rattle.machine.specs.Step.{vramStep}
 use Rattle.machine.specs.Calls.{vramPlan}
-use Rattle.vram.proofs.peek_u8.Statement.{statement}
-use Rattle.vram.proofs.peek_u8.Tie as tie
+use Rattle.vram_reads.proofs.peek_u8.Statement.{statement}
+use Rattle.vram_reads.proofs.peek_u8.Tie as tie
 
 read-u8-requires : tie.Need-read-u8-requires
 read-u8-requires c κs = search needs

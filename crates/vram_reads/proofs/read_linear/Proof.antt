@@ -6,8 +6,8 @@ use Rattle.machine.specs.Step.{vramStep}
 use Rattle.machine.specs.Calls.{vramPlan}
 use Rattle.machine.specs.Deeds.{memoryAfter, valueOf}
 use Rattle.memory_judges.proofs.Told.{as-told}
-use Rattle.vram.proofs.read_linear.Statement.{statement}
-use Rattle.vram.proofs.read_linear.Tie as tie
+use Rattle.vram_reads.proofs.read_linear.Statement.{statement}
+use Rattle.vram_reads.proofs.read_linear.Tie as tie
 
 judge-place-requires : tie.Need-judge-place-requires
 judge-place-requires c κs = search needs

@@ -7,8 +7,8 @@ use Rattle.machine.specs.Step.{vramStep}
 use Rattle.machine.specs.Calls.{vramPlan}
 use Rattle.machine.specs.Deeds.{memoryAfter, valueOf}
 use Rattle.memory_judges.proofs.Told.{as-told}
-use Rattle.vram.proofs.read_glyph.Statement.{statement}
-use Rattle.vram.proofs.read_glyph.Tie as tie
+use Rattle.vram_reads.proofs.read_glyph.Statement.{statement}
+use Rattle.vram_reads.proofs.read_glyph.Tie as tie
 
 judge-offset-requires : tie.Need-judge-offset-requires
 judge-offset-requires c κs = search needs
