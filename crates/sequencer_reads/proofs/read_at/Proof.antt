@@ -1,7 +1,7 @@
 -- `read_at` leads where the machine's read of that kind does.
 use borrow.Author.Needs.{needs}
-use Rattle.sequencer.proofs.direct.read_at.Statement.{statement}
-use Rattle.sequencer.proofs.direct.read_at.Tie as tie
+use Rattle.sequencer_reads.proofs.read_at.Statement.{statement}
+use Rattle.sequencer_reads.proofs.read_at.Tie as tie
 
 enum-told : tie.Need-enum-told
 enum-told c = search needs

@@ -1,9 +1,9 @@
 -- `plane_read` judges the offset as it stands and then reads: the machine's read of each kind, by `read-refused` and `read-done`.
 use borrow.Author.Needs.{needs}
 use Rattle.machine.specs.Memory.{mem}
-use Rattle.sequencer.proofs.DirectLaws.{accepted, read-at-lt, read-refused, read-done}
-use Rattle.sequencer.proofs.direct.plane_read.Statement.{statement}
-use Rattle.sequencer.proofs.direct.plane_read.Tie as tie
+use Rattle.sequencer_reads.proofs.Laws.{accepted, read-at-lt, read-refused, read-done}
+use Rattle.sequencer_reads.proofs.plane_read.Statement.{statement}
+use Rattle.sequencer_reads.proofs.plane_read.Tie as tie
 
 judge-plane-requires : tie.Need-judge-plane-requires
 judge-plane-requires c κs = search needs

@@ -2,8 +2,8 @@
 use borrow.Author.Needs.{needs}
 use Rattle.machine.specs.Step.{directStep}
 use Rattle.machine.specs.Calls.{directPlan}
-use Rattle.sequencer.proofs.direct.peek_u8.Statement.{statement}
-use Rattle.sequencer.proofs.direct.peek_u8.Tie as tie
+use Rattle.sequencer_reads.proofs.peek_u8.Statement.{statement}
+use Rattle.sequencer_reads.proofs.peek_u8.Tie as tie
 
 cpu-read-u8-requires : tie.Need-cpu-read-u8-requires
 cpu-read-u8-requires c κs = search needs

@@ -2,8 +2,8 @@
 use mathlib.Core.Path.{sym, _∙_}
 use borrow.Author.Tests.{not-true, not-false}
 use borrow.Author.Needs.{needs}
-use Rattle.sequencer.proofs.direct.judge_plane.Statement.{statement}
-use Rattle.sequencer.proofs.direct.judge_plane.Tie as tie
+use Rattle.sequencer_reads.proofs.judge_plane.Statement.{statement}
+use Rattle.sequencer_reads.proofs.judge_plane.Tie as tie
 
 fits-seq-requires : tie.Need-fits-seq-requires
 fits-seq-requires c κs = search needs
