@@ -1,27 +1,11 @@
 -- Any two outcomes that a call's contract permits for one input coincide: the answer itself, and each slice that the call may change. `Post` is each contract's own reading.
--- A `&` slice is at exit what it was; of a part handed back the pixels are fixed, and that it is the caller's own picture follows from its lifetime.
-use Prim.Native.Nat.{ℕ}
-use mathlib.Core.Path.{_≡_, ap}
-use mathlib.Core.List.{List}
+use mathlib.Core.Path.{_≡_}
 use contract.Lifetimes.{Lfts}
-use denote.Ref.{RefT, now}
 use denote.Triple.Clauses.{AtExit}
 use borrow.Fn.Kinds.{Dens, endedOf}
-use Rattle.machine.specs.declared.answer.ByteAnswer.{ByteAnswer}
 use Rattle.machine.specs.declared.answer.StoreAnswer.{StoreAnswer}
 use Rattle.machine.specs.Memory.{Memory, lent}
-use Rattle.machine.specs.Answers.{Said}
-use Rattle.machine.proofs.Injective.{answer-of, next-of, pixels-of, byte-injective, pixel-injective, store-injective}
-use Rattle.sequencer.proofs.direct.cpu_read_u8.Reads as cpu-read-u8
-use Rattle.sequencer.proofs.direct.cpu_read_u8.Kinds as cpu-read-u8-kinds
-use Rattle.sequencer.proofs.direct.gc_read_u8.Reads as gc-read-u8
-use Rattle.sequencer.proofs.direct.gc_read_u8.Kinds as gc-read-u8-kinds
-use Rattle.sequencer.proofs.direct.peek_u8.Reads as peek-u8
-use Rattle.sequencer.proofs.direct.peek_u8.Kinds as peek-u8-kinds
-use Rattle.sequencer.proofs.direct.read_linear.Reads as read-linear
-use Rattle.sequencer.proofs.direct.read_linear.Kinds as read-linear-kinds
-use Rattle.sequencer.proofs.direct.serialize_linear.Reads as serialize-linear
-use Rattle.sequencer.proofs.direct.serialize_linear.Kinds as serialize-linear-kinds
+use Rattle.machine.proofs.Injective.{answer-of, next-of, store-injective}
 use Rattle.sequencer.proofs.direct.plane_set.Reads as plane-set
 use Rattle.sequencer.proofs.direct.plane_set.Kinds as plane-set-kinds
 use Rattle.sequencer.proofs.direct.plane_and.Reads as plane-and
@@ -35,27 +19,6 @@ Stored κs = AtExit (endedOf 5 plane-set-kinds.ps plane-set-kinds.r) κs
 
 abbrev left : (κs : Lfts 5) → Stored κs → Memory
 left κs e = lent (e .1 .0) (e .1 .1 .0) (e .1 .1 .1 .0) (e .1 .1 .1 .1 .0) (e .1 .1 .1 .1 .1 .0)
-
-module _ (κs : Lfts 5) (a : Dens κs cpu-read-u8-kinds.ps) where
-  pub cpu-read-u8-determined : (r r′ : ByteAnswer) (e e′ : AtExit (endedOf 5 cpu-read-u8-kinds.ps cpu-read-u8-kinds.r) κs) → cpu-read-u8.Post κs a r e → cpu-read-u8.Post κs a r′ e′ → r ≡ r′
-  cpu-read-u8-determined r r′ e e′ p q = byte-injective r r′ (answer-of p q)
-
-module _ (κs : Lfts 5) (a : Dens κs gc-read-u8-kinds.ps) where
-  pub gc-read-u8-determined : (r r′ : ByteAnswer) (e e′ : AtExit (endedOf 5 gc-read-u8-kinds.ps gc-read-u8-kinds.r) κs) → gc-read-u8.Post κs a r e → gc-read-u8.Post κs a r′ e′ → r ≡ r′
-  gc-read-u8-determined r r′ e e′ p q = byte-injective r r′ (answer-of p q)
-
-module _ (κs : Lfts 5) (a : Dens κs peek-u8-kinds.ps) where
-  pub peek-u8-determined : (r r′ : ByteAnswer) (e e′ : AtExit (endedOf 5 peek-u8-kinds.ps peek-u8-kinds.r) κs) → peek-u8.Post κs a r e → peek-u8.Post κs a r′ e′ → r ≡ r′
-  peek-u8-determined r r′ e e′ p q = byte-injective r r′ (answer-of p q)
-
-module _ (κs : Lfts 5) (a : Dens κs read-linear-kinds.ps) where
-  pub read-linear-determined : (r r′ : ByteAnswer) (e e′ : AtExit (endedOf 5 read-linear-kinds.ps read-linear-kinds.r) κs) → read-linear.Post κs a r e → read-linear.Post κs a r′ e′ → r ≡ r′
-  read-linear-determined r r′ e e′ p q = pixel-injective r r′ (answer-of p q)
-
-module _ (κs : Lfts 6) (a : Dens κs serialize-linear-kinds.ps) where
-  pub serialize-linear-determined : (r r′ : RefT (List ℕ)) (e e′ : AtExit (endedOf 6 serialize-linear-kinds.ps serialize-linear-kinds.r) κs) → serialize-linear.Post κs a r e → serialize-linear.Post κs a r′ e′
-      → (now r ≡ now r′) × (now (e .1 .1 .1 .1 .1 .1 .1 .0) ≡ now (e′ .1 .1 .1 .1 .1 .1 .1 .0))
-  serialize-linear-determined r r′ e e′ p q = (pixels-of p q, ap (λ (s : Said). s .number) (answer-of p q))
 
 module _ (κs : Lfts 5) (a : Dens κs plane-set-kinds.ps) where
   pub plane-set-determined : (r r′ : StoreAnswer) (e e′ : Stored κs) → plane-set.Post κs a r e → plane-set.Post κs a r′ e′ → (r ≡ r′) × (left κs e ≡ left κs e′)

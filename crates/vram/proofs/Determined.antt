@@ -1,30 +1,16 @@
 -- Any two outcomes that a call's contract permits for one input coincide: the answer itself, and each slice that the call may change. `Post` is each contract's own reading.
--- A `&` slice is at exit what it was; of a part handed back the pixels are fixed, and that it is the caller's own picture follows from its lifetime.
-use Prim.Native.Nat.{ℕ}
+-- A `&` slice is at exit what it was.
 use mathlib.Core.Path.{_≡_, ap}
-use mathlib.Core.List.{List}
 use contract.Lifetimes.{Lfts}
-use denote.Ref.{RefT, now}
+use denote.Ref.{now}
 use denote.Triple.Clauses.{AtExit}
 use borrow.Fn.Kinds.{Dens, endedOf}
-use Rattle.machine.specs.declared.answer.ByteAnswer.{ByteAnswer}
 use Rattle.machine.specs.declared.answer.StoreAnswer.{StoreAnswer}
 use Rattle.machine.specs.declared.answer.DoneAnswer.{DoneAnswer}
 use Rattle.machine.specs.Memory.{Memory, lent}
-use Rattle.machine.specs.Answers.{Said}
-use Rattle.machine.proofs.Injective.{answer-of, next-of, pixels-of, byte-injective, pixel-injective, store-injective, done-injective}
-use Rattle.vram.proofs.read_glyph.Reads as read-glyph
-use Rattle.vram.proofs.read_glyph.Kinds as read-glyph-kinds
-use Rattle.vram.proofs.peek_u8.Reads as peek-u8
-use Rattle.vram.proofs.peek_u8.Kinds as peek-u8-kinds
-use Rattle.vram.proofs.read_u8.Reads as read-u8
-use Rattle.vram.proofs.read_u8.Kinds as read-u8-kinds
+use Rattle.machine.proofs.Injective.{answer-of, next-of, store-injective, done-injective}
 use Rattle.vram.proofs.write_u8.Reads as write-u8
 use Rattle.vram.proofs.write_u8.Kinds as write-u8-kinds
-use Rattle.vram.proofs.read_linear.Reads as read-linear
-use Rattle.vram.proofs.read_linear.Kinds as read-linear-kinds
-use Rattle.vram.proofs.serialize_linear.Reads as serialize-linear
-use Rattle.vram.proofs.serialize_linear.Kinds as serialize-linear-kinds
 use Rattle.vram.proofs.deplane.Reads as deplane
 use Rattle.vram.proofs.deplane.Kinds as deplane-kinds
 use Rattle.vram.proofs.plane_set.Reads as plane-set
@@ -41,29 +27,9 @@ Stored κs = AtExit (endedOf 5 plane-set-kinds.ps plane-set-kinds.r) κs
 abbrev left : (κs : Lfts 5) → Stored κs → Memory
 left κs e = lent (e .0) (e .1 .0) (e .1 .1 .0) (e .1 .1 .1 .0) (e .1 .1 .1 .1 .0)
 
-module _ (κs : Lfts 5) (a : Dens κs read-glyph-kinds.ps) where
-  pub read-glyph-determined : (r r′ : ByteAnswer) (e e′ : AtExit (endedOf 5 read-glyph-kinds.ps read-glyph-kinds.r) κs) → read-glyph.Post κs a r e → read-glyph.Post κs a r′ e′ → r ≡ r′
-  read-glyph-determined r r′ e e′ p q = byte-injective r r′ (answer-of p q)
-
-module _ (κs : Lfts 5) (a : Dens κs peek-u8-kinds.ps) where
-  pub peek-u8-determined : (r r′ : ByteAnswer) (e e′ : AtExit (endedOf 5 peek-u8-kinds.ps peek-u8-kinds.r) κs) → peek-u8.Post κs a r e → peek-u8.Post κs a r′ e′ → r ≡ r′
-  peek-u8-determined r r′ e e′ p q = byte-injective r r′ (answer-of p q)
-
-module _ (κs : Lfts 5) (a : Dens κs read-u8-kinds.ps) where
-  pub read-u8-determined : (r r′ : ByteAnswer) (e e′ : AtExit (endedOf 5 read-u8-kinds.ps read-u8-kinds.r) κs) → read-u8.Post κs a r e → read-u8.Post κs a r′ e′ → r ≡ r′
-  read-u8-determined r r′ e e′ p q = byte-injective r r′ (answer-of p q)
-
 module _ (κs : Lfts 5) (a : Dens κs write-u8-kinds.ps) where
   pub write-u8-determined : (r r′ : StoreAnswer) (e e′ : Stored κs) → write-u8.Post κs a r e → write-u8.Post κs a r′ e′ → (r ≡ r′) × (left κs e ≡ left κs e′)
   write-u8-determined r r′ e e′ p q = (store-injective r r′ (answer-of p q), next-of p q)
-
-module _ (κs : Lfts 5) (a : Dens κs read-linear-kinds.ps) where
-  pub read-linear-determined : (r r′ : ByteAnswer) (e e′ : AtExit (endedOf 5 read-linear-kinds.ps read-linear-kinds.r) κs) → read-linear.Post κs a r e → read-linear.Post κs a r′ e′ → r ≡ r′
-  read-linear-determined r r′ e e′ p q = pixel-injective r r′ (answer-of p q)
-
-module _ (κs : Lfts 6) (a : Dens κs serialize-linear-kinds.ps) where
-  pub serialize-linear-determined : (r r′ : RefT (List ℕ)) (e e′ : AtExit (endedOf 6 serialize-linear-kinds.ps serialize-linear-kinds.r) κs) → serialize-linear.Post κs a r e → serialize-linear.Post κs a r′ e′ → (now r ≡ now r′) × (now (e .1 .1 .1 .1 .1 .1 .0) ≡ now (e′ .1 .1 .1 .1 .1 .1 .0))
-  serialize-linear-determined r r′ e e′ p q = (pixels-of p q, ap (λ (s : Said). s .number) (answer-of p q))
 
 module _ (κs : Lfts 5) (a : Dens κs deplane-kinds.ps) where
   pub deplane-determined : (r r′ : DoneAnswer) (e e′ : AtExit (endedOf 5 deplane-kinds.ps deplane-kinds.r) κs) → deplane.Post κs a r e → deplane.Post κs a r′ e′ → (r ≡ r′) × (now (e .1 .1 .1 .1 .0) ≡ now (e′ .1 .1 .1 .1 .0))

@@ -1,5 +1,5 @@
 -- What the code's proofs cite: a call by what its judge answered, and a store of any kind as the machine's.
-use Prim.Native.Nat.{ℕ, _<_, _≤_}
+use Prim.Native.Nat.{ℕ, _<_}
 use mathlib.Core.Path.{_≡_, refl, sym, _∙_}
 use lib.Dec.{eqb}
 use Rattle.machine.specs.declared.shape.Shape.{Shape}
@@ -11,23 +11,20 @@ use Rattle.machine.specs.Answers.{refusalNumber, one, said, outcome, doneSaid}
 use Rattle.machine.specs.Deeds.{byte, remade, laid, valueOf}
 use Rattle.machine.specs.Calls.{offsetNumber, planeNumber, unmasked, vramPlan}
 use Rattle.machine.specs.Step.{vramStep}
-use Rattle.machine.proofs.Laws.{perform-done, perform-refused, refusal-some, offset-accepted, plane-accepted}
+use Rattle.machine.proofs.Laws.{perform-done, perform-refused, refusal-some, offset-accepted}
 use Rattle.memory_judges.proofs.Told.{as-told}
 use Rattle.planes.specs.declared.kind.PlaneStore.{PlaneStore}
 use Rattle.planes.specs.declared.kind.PlaneStore.the-variants.{Set, And, Or}
 use Rattle.planes.specs.Stores.{combines}
 use Rattle.planes.proofs.Stores.{store-one}
+use Rattle.vram_reads.proofs.Laws.{plane-asked}
 use Rattle.vram.specs.Stores.{storeCall}
 
 -- ---- a call, by what its judge answered
 
 -- what an inner function asks, where the judge accepts
-module _ (h : Shape) (o : ℕ) where
-  pub plane-asked : (p : ℕ) → 0 ≡ planeNumber h p o → Sound h × ((o < size h) × (p ≤ 3))
-  plane-asked p e = let a = plane-accepted h p o (sym e) in (a .shaped, (a .offset, a .plane))
-
-  pub offset-asked : 0 ≡ offsetNumber h o → Sound h × (o < size h)
-  offset-asked e = let a = offset-accepted h o (sym e) in (a .shaped, a .offset)
+pub offset-asked : (h : Shape) (o : ℕ) → 0 ≡ offsetNumber h o → Sound h × (o < size h)
+offset-asked h o e = let a = offset-accepted h o (sym e) in (a .shaped, a .offset)
 
 -- the stores by plane, by what their judge answered
 module _ (m : Memory) (p o x : ℕ) {d : DoneAnswer} (j : doneSaid d .number ≡ planeNumber (shape m) p o) where

@@ -2,7 +2,8 @@
 use borrow.Author.Needs.{needs}
 use Rattle.machine.specs.Memory.{mem}
 use Rattle.memory_judges.proofs.Told.{as-told}
-use Rattle.vram.proofs.Laws.{plane-asked, store-refused, store-done}
+use Rattle.vram_reads.proofs.Laws.{plane-asked}
+use Rattle.vram.proofs.Laws.{store-refused, store-done}
 use Rattle.vram.proofs.plane_store.Statement.{statement}
 use Rattle.vram.proofs.plane_store.Tie as tie
 
