@@ -5,9 +5,9 @@ use Rattle.bits.proofs.Laws.{bit-lt}
 use Rattle.bits.specs.Bit.{bit, isOne}
 use Rattle.machine.specs.DataPath.{masked}
 use Rattle.machine.specs.Graphics.{logicFunction}
-use Rattle.write_path.proofs.Bytes.{step-of, data-bit}
-use Rattle.write_path.proofs.modes.mode_0.Statement.{statement}
-use Rattle.write_path.proofs.modes.mode_0.Tie as tie
+use Rattle.write_bytes.proofs.Bytes.{step-of, data-bit}
+use Rattle.write_bytes.proofs.mode_0.Statement.{statement}
+use Rattle.write_bytes.proofs.mode_0.Tie as tie
 
 set-reset-requires : tie.Need-set-reset-requires
 set-reset-requires c κs = search needs

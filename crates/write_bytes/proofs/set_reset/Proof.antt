@@ -2,8 +2,8 @@
 use native.Mathlib.Omega.{arith}
 use borrow.Author.Needs.{needs}
 use Rattle.bits.proofs.Bitwise.{bit-set, bit-clear}
-use Rattle.write_path.proofs.modes.set_reset.Statement.{statement}
-use Rattle.write_path.proofs.modes.set_reset.Tie as tie
+use Rattle.write_bytes.proofs.set_reset.Statement.{statement}
+use Rattle.write_bytes.proofs.set_reset.Tie as tie
 
 shl-if1 : tie.Need-shl-if1
 shl-if1 c = search needs

@@ -3,9 +3,9 @@ use mathlib.Core.Path.{sym, _∙_}
 use borrow.Author.Needs.{needs}
 use Rattle.bits.proofs.Laws.{of-bit}
 use Rattle.machine.specs.DataPath.{writtenBit}
-use Rattle.write_path.proofs.Bytes.{mode-0-is}
-use Rattle.write_path.proofs.modes.plane_byte.Statement.{statement}
-use Rattle.write_path.proofs.modes.plane_byte.Tie as tie
+use Rattle.write_bytes.proofs.Bytes.{mode-0-is}
+use Rattle.write_bytes.proofs.plane_byte.Statement.{statement}
+use Rattle.write_bytes.proofs.plane_byte.Tie as tie
 
 enum-told : tie.Need-enum-told
 enum-told c = search needs

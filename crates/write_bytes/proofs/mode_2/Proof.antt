@@ -6,9 +6,9 @@ use Rattle.bits.proofs.Laws.{bit-lt}
 use Rattle.bits.specs.Bit.{bit}
 use Rattle.machine.specs.DataPath.{masked}
 use Rattle.machine.specs.Graphics.{logicFunction}
-use Rattle.write_path.proofs.Bytes.{step-of}
-use Rattle.write_path.proofs.modes.mode_2.Statement.{statement}
-use Rattle.write_path.proofs.modes.mode_2.Tie as tie
+use Rattle.write_bytes.proofs.Bytes.{step-of}
+use Rattle.write_bytes.proofs.mode_2.Statement.{statement}
+use Rattle.write_bytes.proofs.mode_2.Tie as tie
 
 spread-requires : tie.Need-spread-requires
 spread-requires c κs = search needs

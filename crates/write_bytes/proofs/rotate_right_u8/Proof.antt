@@ -1,8 +1,8 @@
 -- `rotate_right_u8` turns eight bits right: from the law that tries all cases.
 use borrow.Author.Needs.{needs}
-use Rattle.write_path.proofs.Bytes.{turned}
-use Rattle.write_path.proofs.modes.rotate_right_u8.Statement.{statement}
-use Rattle.write_path.proofs.modes.rotate_right_u8.Tie as tie
+use Rattle.write_bytes.proofs.Bytes.{turned}
+use Rattle.write_bytes.proofs.rotate_right_u8.Statement.{statement}
+use Rattle.write_bytes.proofs.rotate_right_u8.Tie as tie
 
 shr-result : tie.Need-shr-result
 shr-result c = search needs

@@ -1,10 +1,10 @@
-// The data path of a write: the byte rotated, Set/Reset, the logic step, and the byte that each plane is to have.
+// The byte that a write hands to each plane: the byte rotated, Set/Reset, the logic step under Bit Mask, and the four planes by the write mode.
 ghost use mathlib.Core.Path.{_≡_};
 ghost use Prim.Native.Nat.{_<_, _≤_};
 ghost use Rattle.bits.specs.Bit.{bit, byteOf, isOne, pick};
 ghost use Rattle.machine.specs.Graphics.{rotateCount};
 ghost use Rattle.machine.specs.DataPath.{rotated, combined, masked, writtenBit};
-ghost use Rattle.write_path.specs.Written.{written, four};
+ghost use Rattle.write_bytes.specs.Written.{written, four};
 use bits::inner::spread;
 use machine::GraphicsRegisters;
 use machine::LogicFunction;

@@ -3,10 +3,10 @@ use native.Mathlib.Omega.{arith}
 use borrow.Author.Needs.{needs}
 use Rattle.bits.specs.Bit.{field}
 use Rattle.machine.specs.Graphics.{rotateCount}
-use Rattle.write_path.specs.Written.{written}
-use Rattle.write_path.proofs.Bytes.{turned-by, four-alike}
-use Rattle.write_path.proofs.modes.written.Statement.{statement}
-use Rattle.write_path.proofs.modes.written.Tie as tie
+use Rattle.write_bytes.specs.Written.{written}
+use Rattle.write_bytes.proofs.Bytes.{turned-by, four-alike}
+use Rattle.write_bytes.proofs.written.Statement.{statement}
+use Rattle.write_bytes.proofs.written.Tie as tie
 
 rotate-count-requires : tie.Need-rotate-count-requires
 rotate-count-requires c κs = search needs
