@@ -1,19 +1,17 @@
--- The data path on whole bytes is the machine's rule bit by bit: rotate, logic step, and a byte made of one plane's bits.
-use Prim.Native.Nat.{ℕ, _+_, _-_, _*_, _/_, _%_, _^_, _<_, min, max}
+-- The data path on whole bytes is the machine's rule bit by bit: rotate, Set/Reset, and a byte made of one plane's bits.
+use Prim.Native.Nat.{ℕ, _+_, _-_, _*_, _/_, _%_, _^_, _<_}
 use mathlib.Core.Path.{_≡_, refl, ap, _∙_}
 use mathlib.Core.Bool.{Bool, true, false}
 use mathlib.Core.List.{[], _∷_}
-use lib.Bits.{bitAnd, bitOr, bitXor, differ}
+use lib.Bits.{bitOr}
 use Rattle.bits.specs.Bit.{bit, ofBits, byteOf, isOne, pick}
-use Rattle.bits.proofs.Laws.{bit-lt, bit-of, of-ext, is-of}
-use Rattle.bits.proofs.Bitwise.{bitwise, bytes, bit-spread}
-use Rattle.bits.proofs.Decide.{agree2, same3}
-use Rattle.machine.specs.declared.graphics.LogicFunction.{LogicFunction}
-use Rattle.machine.specs.declared.graphics.LogicFunction.the-variants.{Unmodified, And, Or, Xor}
+use Rattle.bits.proofs.Laws.{bit-lt, bit-of, of-ext}
+use Rattle.bits.proofs.Bitwise.{bit-spread}
+use Rattle.bits.proofs.Decide.{agree2}
 use Rattle.machine.specs.declared.graphics.GraphicsRegisters.{GraphicsRegisters}
 use Rattle.machine.specs.declared.graphics.WriteMode.the-variants.{Mode0}
 use Rattle.machine.specs.Graphics.{rotateCount}
-use Rattle.machine.specs.DataPath.{rotated, dataBit, combined, masked, writtenBit}
+use Rattle.machine.specs.DataPath.{rotated, dataBit, masked, writtenBit}
 
 -- two shifts and an or turn eight bits: all 2,048 cases are tried
 pub turned : (x n : ℕ) → x < 256 → n < 8 → bitOr (x / 2 ^ n) (x * 2 ^ ((8 - n) % 8) % 256) ≡ byteOf (rotated n x)
@@ -23,55 +21,6 @@ turned = agree2 256 8 (λ x n. bitOr (x / 2 ^ n) (x * 2 ^ ((8 - n) % 8) % 256)) 
 -- by the registers' count
 pub turned-by : (r : GraphicsRegisters) (x n t : ℕ) → t ≡ byteOf (rotated n x) → n ≡ rotateCount r → t ≡ byteOf (rotated (rotateCount r) x)
 turned-by r x n t e f = e ∙ ap (λ (n : ℕ). byteOf (rotated n x)) f
-
--- ---- the logic step
-
--- the code's expression for each function
-abbrev pub whole : LogicFunction → ℕ → ℕ → ℕ → ℕ
-whole Unmodified m d l = bitOr (bitAnd d m) (bitAnd (255 - m) l)
-whole And m d l = bitAnd (bitOr d (255 - m)) l
-whole Or m d l = bitOr (bitAnd d m) l
-whole Xor m d l = bitXor (bitAnd d m) l
-
--- the same on bits
-abbrev single : LogicFunction → ℕ → ℕ → ℕ → ℕ
-single Unmodified m d l = max (min d m) (min (1 - m) l)
-single And m d l = min (max d (1 - m)) l
-single Or m d l = max (min d m) l
-single Xor m d l = differ (min d m) l
-
--- a mask bit 1 takes the function of data and latch, a 0 the latch
-abbrev pub stepped : LogicFunction → ℕ → ℕ → ℕ → ℕ
-stepped f m d l = pick (isOne m) (combined f d l) l
-
--- what the code does to bits is the rule: eight cases a function
-right : (f : LogicFunction) (m d l : ℕ) → m < 2 → d < 2 → l < 2 → single f m d l ≡ stepped f m d l
-unfolding combined
-right Unmodified = same3 (single Unmodified) (stepped Unmodified) tt
-right And = same3 (single And) (stepped And) tt
-right Or = same3 (single Or) (stepped Or) tt
-right Xor = same3 (single Xor) (stepped Xor) tt
-
-module _ (m d l : ℕ) (hm : m < 256) (hd : d < 256) (hl : l < 256) where
-  apart : (f : LogicFunction) (i : ℕ) → i < 8 → bit i (whole f m d l) ≡ single f (bit i m) (bit i d) (bit i l)
-  apart Unmodified i h = simp bitwise
-  apart And i h = simp bitwise
-  apart Or i h = simp bitwise
-  apart Xor i h = simp bitwise
-
-  small : (f : LogicFunction) → whole f m d l < 2 ^ 8
-  small Unmodified = search bytes
-  small And = search bytes
-  small Or = search bytes
-  small Xor = search bytes
-
-  pub whole-is : (f : LogicFunction) → whole f m d l ≡ byteOf (λ i. stepped f (bit i m) (bit i d) (bit i l))
-  whole-is f = is-of 8 (small f) (λ i h. apart f i h ∙ right f (bit i m) (bit i d) (bit i l) (bit-lt i m) (bit-lt i d) (bit-lt i l))
-
--- the logic step of a data byte that is told bit by bit
-pub step-of : (f : LogicFunction) (m d l : ℕ) (e : ℕ → ℕ) → ((i : ℕ) → i < 8 → bit i d ≡ e i)
-    → byteOf (λ i. stepped f (bit i m) (bit i d) (bit i l)) ≡ byteOf (λ i. stepped f (bit i m) (e i) (bit i l))
-step-of f m d l e h = of-ext 8 (λ i k. ap (λ (b : ℕ). stepped f (bit i m) b (bit i l)) (h i k))
 
 -- bit i of the data: a plane whose Enable bit is set has its Set/Reset bit, spread
 pub data-bit : (b : Bool) (s x : ℕ) → s < 2 → (i : ℕ) → i < 8 → bit i (pick b (byteOf (λ k. s)) x) ≡ pick b s (bit i x)

@@ -1,13 +1,13 @@
-// The byte that a write hands to each plane: the byte rotated, Set/Reset, the logic step under Bit Mask, and the four planes by the write mode.
+// The byte that a write hands to each plane: the byte rotated, Set/Reset and the logic step, by the write mode.
 ghost use mathlib.Core.Path.{_≡_};
 ghost use Prim.Native.Nat.{_<_, _≤_};
 ghost use Rattle.bits.specs.Bit.{bit, byteOf, isOne, pick};
 ghost use Rattle.machine.specs.Graphics.{rotateCount};
-ghost use Rattle.machine.specs.DataPath.{rotated, combined, masked, writtenBit};
+ghost use Rattle.machine.specs.DataPath.{rotated, masked, writtenBit};
 ghost use Rattle.write_bytes.specs.Written.{written, four};
 use bits::inner::spread;
+use logic_step::logic_step;
 use machine::GraphicsRegisters;
-use machine::LogicFunction;
 use machine::WriteMode;
 
 // Eight bits turned right; a turn by 0 shifts by 0 twice.
@@ -27,18 +27,6 @@ fn set_reset(registers: GraphicsRegisters, data: u8, plane: u8) -> u8
         return spread(registers.set_reset, plane);
     }
     data
-}
-
-// The logic step: a mask bit 1 takes the function of data and latch, a 0 the latch.
-fn logic_step(function: LogicFunction, mask: u8, data: u8, latch: u8) -> u8
-    ensures { λ r. ⌜ r ≡ byteOf (λ i. pick (isOne (bit i mask)) (combined function (bit i «data») (bit i latch)) (bit i latch)) ⌝ }
-{
-    match function {
-        LogicFunction::Unmodified => (data & mask) | (!mask & latch),
-        LogicFunction::And => (data | !mask) & latch,
-        LogicFunction::Or => (data & mask) | latch,
-        LogicFunction::Xor => (data & mask) ^ latch,
-    }
 }
 
 // Mode 0: the rotated byte, or the plane's Set/Reset bit, and the logic step.

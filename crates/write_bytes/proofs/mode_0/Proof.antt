@@ -5,7 +5,8 @@ use Rattle.bits.proofs.Laws.{bit-lt}
 use Rattle.bits.specs.Bit.{bit, isOne}
 use Rattle.machine.specs.DataPath.{masked}
 use Rattle.machine.specs.Graphics.{logicFunction}
-use Rattle.write_bytes.proofs.Bytes.{step-of, data-bit}
+use Rattle.logic_step.proofs.Step.{step-of}
+use Rattle.write_bytes.proofs.Bytes.{data-bit}
 use Rattle.write_bytes.proofs.mode_0.Statement.{statement}
 use Rattle.write_bytes.proofs.mode_0.Tie as tie
 

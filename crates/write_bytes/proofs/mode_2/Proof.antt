@@ -6,7 +6,7 @@ use Rattle.bits.proofs.Laws.{bit-lt}
 use Rattle.bits.specs.Bit.{bit}
 use Rattle.machine.specs.DataPath.{masked}
 use Rattle.machine.specs.Graphics.{logicFunction}
-use Rattle.write_bytes.proofs.Bytes.{step-of}
+use Rattle.logic_step.proofs.Step.{step-of}
 use Rattle.write_bytes.proofs.mode_2.Statement.{statement}
 use Rattle.write_bytes.proofs.mode_2.Tie as tie
 

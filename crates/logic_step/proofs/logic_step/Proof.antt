@@ -4,9 +4,9 @@ use borrow.Author.Needs.{needs}
 use Rattle.bits.specs.Bit.{bit, byteOf}
 use Rattle.machine.specs.declared.graphics.LogicFunction.the-variants.{Unmodified, And, Or, Xor}
 use Rattle.machine.specs.declared.graphics.LogicFunction.{LogicFunction}
-use Rattle.write_bytes.proofs.Bytes.{whole, stepped, whole-is}
-use Rattle.write_bytes.proofs.logic_step.Statement.{statement}
-use Rattle.write_bytes.proofs.logic_step.Tie as tie
+use Rattle.logic_step.proofs.Step.{whole, stepped, whole-is}
+use Rattle.logic_step.proofs.logic_step.Statement.{statement}
+use Rattle.logic_step.proofs.logic_step.Tie as tie
 
 enum-told : tie.Need-enum-told
 enum-told c = search needs
