@@ -4,15 +4,14 @@ ghost use Rattle.machine.specs.Answers.{one, two, outcome};
 ghost use Rattle.machine.specs.Graphics.{freshGc};
 ghost use Rattle.machine.specs.Calls.{gcReset, gcChain, gcChain4, gcMemoryMap, gcOddEven, gcShiftMode, gcReadAddress, gcReadData, gcWriteAddress, gcWriteData, gcMapAddress};
 ghost use Rattle.machine.specs.Step.{lifted, graphicsStep};
-ghost use Rattle.host_answers.specs.Answers.{answerSaid, mappedSaid as mappedAnswerSaid};
+ghost use Rattle.host_answers.specs.Answers.{answerSaid};
+ghost use Rattle.host_wide_answers.specs.Wide.{mappedSaid as mappedAnswerSaid};
 ghost use Rattle.host_records.specs.Records.{controllerOf, recordOf};
 ghost use Rattle.host_calls.specs.Hosted.{graphicsHosted};
 use host_answers::Answer;
-use host_answers::Mapped;
 use host_answers::of_byte;
 use host_answers::of_flag;
 use host_answers::of_map;
-use host_answers::of_mapped;
 use host_answers::of_odd_even;
 use host_answers::of_shift;
 use host_answers::unknown;
@@ -23,6 +22,8 @@ use host_records::record::ControllerRecord;
 use host_records::record::known_controller;
 use host_records::record::of_controller;
 use host_records::record::to_controller;
+use host_wide_answers::Mapped;
+use host_wide_answers::of_mapped;
 use machine::GraphicsController;
 
 // The start record.

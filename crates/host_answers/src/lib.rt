@@ -1,14 +1,12 @@
-// The machine's answers in numbers, as a host takes them: 0 or a refusal's number, and the value beside it. No call is performed here.
+// The machine's answers in numbers, as a host takes them: 0 or a refusal's number, and a byte beside it (wider values: `host_wide_answers`).
+// No call is performed here.
 ghost use mathlib.Core.Path.{_≡_};
-ghost use mathlib.Core.List.{[]};
-ghost use Rattle.machine.specs.Answers.{refusalNumber, said, part as pixelsOf, byteSaid, pixelSaid, storeSaid, doneSaid, flagSaid, clockSaid, mapSaid, mapNumber, oddEvenSaid, oddEvenNumber, shiftSaid, shiftNumber, mappedSaid};
-ghost use Rattle.host_answers.specs.Answers.{answerSaid, pixelAnswerSaid, clockSaid as clockAnswerSaid, mappedSaid as mappedAnswerSaid, answerOf, shownOf};
+ghost use Rattle.machine.specs.Answers.{refusalNumber, byteSaid, pixelSaid, storeSaid, doneSaid, flagSaid, mapSaid, mapNumber, oddEvenSaid, oddEvenNumber, shiftSaid, shiftNumber};
+ghost use Rattle.host_answers.specs.Answers.{answerSaid, pixelAnswerSaid, answerOf};
 use machine::ByteAnswer;
-use machine::ClockAnswer;
 use machine::DoneAnswer;
 use machine::FlagAnswer;
 use machine::MapAnswer;
-use machine::MappedAnswer;
 use machine::MemoryMap;
 use machine::OddEvenAnswer;
 use machine::OddEvenModeComplement;
@@ -22,28 +20,6 @@ use machine::StoreAnswer;
 pub struct Answer {
     pub number: u8,
     pub value: u8,
-}
-
-// The character clock.
-#[repr(C)]
-pub struct Clock {
-    pub clock: u32,
-    pub number: u8,
-}
-
-// Where an address leads.
-#[repr(C)]
-pub struct Mapped {
-    pub offset: usize,
-    pub number: u8,
-    pub a0: bool,
-}
-
-// The eight pixels of a show by value, since a part of a lent slice cannot cross the boundary; eight zeros where refused.
-#[repr(C)]
-pub struct Shown {
-    pub pixels: [u8; 8],
-    pub number: u8,
 }
 
 fn given(number: u8, value: u8) -> Answer
@@ -69,15 +45,6 @@ fn refused(refusal: Refusal) -> Answer
     ensures { λ r. ⌜ r ≡ answerOf (refusalNumber refusal) 0 ⌝ }
 {
     given(fields::refusal_number(refusal), 0)
-}
-
-pub fn unknown_shown() -> Shown
-    ensures { λ r. ⌜ r ≡ shownOf (said 6 (pixelsOf [])) ⌝ }
-{
-    Shown {
-        number: 6,
-        pixels: [0u8; 8],
-    }
 }
 
 pub fn of_byte(answer: ByteAnswer) -> Answer
@@ -122,18 +89,6 @@ pub fn of_flag(answer: FlagAnswer) -> Answer
     match answer {
         FlagAnswer::Done(set) => given(0, set as u8),
         FlagAnswer::Refused(x) => refused(x),
-    }
-}
-
-pub fn of_clock(answer: ClockAnswer) -> Clock
-    ensures { λ r. ⌜ clockAnswerSaid r ≡ clockSaid answer ⌝ }
-{
-    match answer {
-        ClockAnswer::Done(clock) => Clock { clock, number: 0 },
-        ClockAnswer::Refused(x) => Clock {
-            clock: 0,
-            number: fields::refusal_number(x),
-        },
     }
 }
 
@@ -193,44 +148,4 @@ pub fn of_shift(answer: ShiftAnswer) -> Answer
         ShiftAnswer::Done(mode) => given(0, shift_number(mode)),
         ShiftAnswer::Refused(x) => refused(x),
     }
-}
-
-pub fn of_mapped(answer: MappedAnswer) -> Mapped
-    ensures { λ r. ⌜ mappedAnswerSaid r ≡ mappedSaid answer ⌝ }
-{
-    match answer {
-        MappedAnswer::Done(offset, a0) => Mapped {
-            offset: offset.0,
-            number: 0,
-            a0,
-        },
-        MappedAnswer::Refused(x) => Mapped {
-            offset: 0,
-            number: fields::refusal_number(x),
-            a0: false,
-        },
-    }
-}
-
-// A show's number, and its eight pixels where there are eight.
-pub fn of_part(number: u8, part: &[u8]) -> Shown
-    ensures { λ r. ⌜ r ≡ shownOf (said number (pixelsOf (now (part .entry)))) ⌝ }
-{
-    if part.len() != 8 {
-        return Shown {
-            number,
-            pixels: [0u8; 8],
-        };
-    }
-    let pixels = [
-        part[0],
-        part[1],
-        part[2],
-        part[3],
-        part[4],
-        part[5],
-        part[6],
-        part[7],
-    ];
-    Shown { number, pixels }
 }

@@ -1,7 +1,7 @@
--- `of_clock` tells number and clock: from `refusal_number`.
+-- `of_mapped` tells number, offset and a0: from `refusal_number`.
 use borrow.Author.Needs.{needs}
-use Rattle.host_answers.proofs.of_clock.Statement.{statement}
-use Rattle.host_answers.proofs.of_clock.Tie as tie
+use Rattle.host_wide_answers.proofs.of_mapped.Statement.{statement}
+use Rattle.host_wide_answers.proofs.of_mapped.Tie as tie
 
 enum-known-answer : tie.Need-enum-known-answer
 enum-known-answer c = search needs
@@ -20,7 +20,7 @@ returns-2 : tie.Need-returns-2
 returns-2 c =
     rw (c .before .before .answer2 .given .1, c .refusal-number .ensures)
 
-pub of-clock-spec : {M : Type 1} → statement M
-of-clock-spec =
+pub of-mapped-spec : {M : Type 1} → statement M
+of-mapped-spec =
     tie.close
     (tie.spec enum-known-answer enum-known-answer-2 refusal-number-requires returns returns-2)

@@ -1,9 +1,9 @@
 -- `of_part` copies eight pixels, or gives zeros: from the test on the length.
 use borrow.Author.Tests.{eq-eqb, ne-eqb}
-use Rattle.host_answers.proofs.Laws.{eight}
+use Rattle.host_wide_answers.proofs.Laws.{eight}
 use borrow.Author.Needs.{needs}
-use Rattle.host_answers.proofs.of_part.Statement.{statement}
-use Rattle.host_answers.proofs.of_part.Tie as tie
+use Rattle.host_wide_answers.proofs.of_part.Statement.{statement}
+use Rattle.host_wide_answers.proofs.of_part.Tie as tie
 
 returns : tie.Need-returns
 returns c =
