@@ -1,4 +1,4 @@
-// The way from an address to a plane offset, on the record alone.
+// The way from an address to a plane offset, on the record alone: the call, answered with no memory at hand.
 ghost use mathlib.Core.Path.{_≡_};
 ghost use Rattle.machine.specs.Answers.{outcome, mappedSaid};
 ghost use Rattle.machine.specs.Calls.{gcMapAddress};

@@ -1,8 +1,8 @@
 -- `map_address` answers as the machine, whatever the memory: by `mapped-anywhere`.
-use Rattle.graphics_registers.proofs.Anywhere.{mapped-anywhere}
+use Rattle.address_map.proofs.Anywhere.{mapped-anywhere}
 use borrow.Author.Needs.{needs}
-use Rattle.graphics_registers.proofs.address.map_address.Statement.{statement}
-use Rattle.graphics_registers.proofs.address.map_address.Tie as tie
+use Rattle.address_map.proofs.map_address.Statement.{statement}
+use Rattle.address_map.proofs.map_address.Tie as tie
 
 fits-gc-requires : tie.Need-fits-gc-requires
 fits-gc-requires c κs = search needs
