@@ -1,18 +1,12 @@
-// The machine's answers in numbers, as a host takes them: 0 or a refusal's number, and a byte beside it (wider values: `host_wide_answers`).
-// No call is performed here.
+// The machine's answers in numbers, as a host takes them: 0 or a refusal's number, and a byte beside it. No call is performed here.
+// Over it: the controller's fields (`host_field_answers`) and what is wider than a byte (`host_wide_answers`).
 ghost use mathlib.Core.Path.{_≡_};
-ghost use Rattle.machine.specs.Answers.{refusalNumber, byteSaid, pixelSaid, storeSaid, doneSaid, flagSaid, mapSaid, mapNumber, oddEvenSaid, oddEvenNumber, shiftSaid, shiftNumber};
+ghost use Rattle.machine.specs.Answers.{refusalNumber, byteSaid, pixelSaid, storeSaid, doneSaid, flagSaid};
 ghost use Rattle.host_answers.specs.Answers.{answerSaid, pixelAnswerSaid, answerOf};
 use machine::ByteAnswer;
 use machine::DoneAnswer;
 use machine::FlagAnswer;
-use machine::MapAnswer;
-use machine::MemoryMap;
-use machine::OddEvenAnswer;
-use machine::OddEvenModeComplement;
 use machine::Refusal;
-use machine::ShiftAnswer;
-use machine::ShiftMode;
 use machine::StoreAnswer;
 
 // A byte, a mark, an enum's place in its order; 0 where a call hands nothing back.
@@ -22,7 +16,7 @@ pub struct Answer {
     pub value: u8,
 }
 
-fn given(number: u8, value: u8) -> Answer
+pub fn given(number: u8, value: u8) -> Answer
     ensures { λ r. ⌜ r ≡ answerOf number value ⌝ }
 {
     Answer { number, value }
@@ -41,7 +35,7 @@ pub fn unknown() -> Answer
     given(6, 0)
 }
 
-fn refused(refusal: Refusal) -> Answer
+pub fn refused(refusal: Refusal) -> Answer
     ensures { λ r. ⌜ r ≡ answerOf (refusalNumber refusal) 0 ⌝ }
 {
     given(fields::refusal_number(refusal), 0)
@@ -89,63 +83,5 @@ pub fn of_flag(answer: FlagAnswer) -> Answer
     match answer {
         FlagAnswer::Done(set) => given(0, set as u8),
         FlagAnswer::Refused(x) => refused(x),
-    }
-}
-
-fn map_number(map: MemoryMap) -> u8
-    ensures { λ r. ⌜ r ≡ mapNumber map ⌝ }
-{
-    match map {
-        MemoryMap::A0000_128k => 0,
-        MemoryMap::A0000_64K => 1,
-        MemoryMap::B0000_32K => 2,
-        MemoryMap::B8000_32K => 3,
-    }
-}
-
-pub fn of_map(answer: MapAnswer) -> Answer
-    ensures { λ r. ⌜ answerSaid r ≡ mapSaid answer ⌝ }
-{
-    match answer {
-        MapAnswer::Done(map) => given(0, map_number(map)),
-        MapAnswer::Refused(x) => refused(x),
-    }
-}
-
-fn odd_even_number(mode: OddEvenModeComplement) -> u8
-    ensures { λ r. ⌜ r ≡ oddEvenNumber mode ⌝ }
-{
-    match mode {
-        OddEvenModeComplement::Sequential => 0,
-        OddEvenModeComplement::OddEven => 1,
-    }
-}
-
-pub fn of_odd_even(answer: OddEvenAnswer) -> Answer
-    ensures { λ r. ⌜ answerSaid r ≡ oddEvenSaid answer ⌝ }
-{
-    match answer {
-        OddEvenAnswer::Done(mode) => given(0, odd_even_number(mode)),
-        OddEvenAnswer::Refused(x) => refused(x),
-    }
-}
-
-fn shift_number(mode: ShiftMode) -> u8
-    ensures { λ r. ⌜ r ≡ shiftNumber mode ⌝ }
-{
-    match mode {
-        ShiftMode::Standard => 0,
-        ShiftMode::CGACompatible => 1,
-        ShiftMode::Chain4 => 2,
-        ShiftMode::Unused => 3,
-    }
-}
-
-pub fn of_shift(answer: ShiftAnswer) -> Answer
-    ensures { λ r. ⌜ answerSaid r ≡ shiftSaid answer ⌝ }
-{
-    match answer {
-        ShiftAnswer::Done(mode) => given(0, shift_number(mode)),
-        ShiftAnswer::Refused(x) => refused(x),
     }
 }

@@ -1,7 +1,7 @@
 -- `of_odd_even` tells number and value: from `odd_even_number`, `given` and `refused`.
 use borrow.Author.Needs.{needs}
-use Rattle.host_answers.proofs.of_odd_even.Statement.{statement}
-use Rattle.host_answers.proofs.of_odd_even.Tie as tie
+use Rattle.host_field_answers.proofs.of_odd_even.Statement.{statement}
+use Rattle.host_field_answers.proofs.of_odd_even.Tie as tie
 
 enum-known-answer : tie.Need-enum-known-answer
 enum-known-answer c = search needs
