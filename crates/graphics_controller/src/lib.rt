@@ -1,13 +1,13 @@
-// The graphics controller: the processor's accesses and the show, and its registers, which have no memory (`graphics_registers`).
+// The graphics controller: the processor's accesses and the show, and what has no memory: its registers (`graphics_registers`) and `map_address` (`address_map`).
 mod access;
 mod show;
 
 pub use access::cpu_peek_u8;
 pub use access::cpu_read_u8;
 pub use access::cpu_write_u8;
+pub use address_map::map_address;
 pub use graphics_registers::chain;
 pub use graphics_registers::chain4;
-pub use graphics_registers::map_address;
 pub use graphics_registers::memory_map;
 pub use graphics_registers::odd_even;
 pub use graphics_registers::read_address;

@@ -8,13 +8,12 @@ use Rattle.machine.specs.declared.answer.ByteAnswer.{ByteAnswer}
 use Rattle.machine.specs.declared.answer.DoneAnswer.{DoneAnswer}
 use Rattle.machine.specs.declared.answer.FlagAnswer.{FlagAnswer}
 use Rattle.machine.specs.declared.answer.MapAnswer.{MapAnswer}
-use Rattle.machine.specs.declared.answer.MappedAnswer.{MappedAnswer}
 use Rattle.machine.specs.declared.answer.OddEvenAnswer.{OddEvenAnswer}
 use Rattle.machine.specs.declared.answer.ShiftAnswer.{ShiftAnswer}
 use Rattle.machine.specs.declared.answer.GraphicsDone.{GraphicsDone}
 use Rattle.machine.specs.declared.graphics.GraphicsController.{GraphicsController}
 use Rattle.machine.specs.Answers.{Outcome, outcome, doneSaid}
-use Rattle.machine.proofs.Injective.{answer-of, next-of, byte-injective, done-injective, flag-injective, map-injective, odd-even-injective, shift-injective, mapped-injective}
+use Rattle.machine.proofs.Injective.{answer-of, next-of, byte-injective, done-injective, flag-injective, map-injective, odd-even-injective, shift-injective}
 use Rattle.graphics_registers.proofs.registers.reset.Reads as reset
 use Rattle.graphics_registers.proofs.registers.reset.Kinds as reset-kinds
 use Rattle.graphics_registers.proofs.registers.chain.Reads as chain
@@ -35,8 +34,6 @@ use Rattle.graphics_registers.proofs.registers.write_address.Reads as w
 use Rattle.graphics_registers.proofs.registers.write_address.Kinds as write-address-kinds
 use Rattle.graphics_registers.proofs.registers.write_data.Reads as write-data
 use Rattle.graphics_registers.proofs.registers.write_data.Kinds as write-data-kinds
-use Rattle.graphics_registers.proofs.address.map_address.Reads as map-address
-use Rattle.graphics_registers.proofs.address.map_address.Kinds as map-address-kinds
 
 -- an answer and the record beside it
 port-of : {o : Outcome GraphicsController} (r r′ : GraphicsDone) → outcome (doneSaid (r .answer)) (r .gc) ≡ o → outcome (doneSaid (r′ .answer)) (r′ .gc) ≡ o → r ≡ r′
@@ -81,7 +78,3 @@ module _ (κs : Lfts 0) (a : Dens κs write-address-kinds.ps) where
 module _ (κs : Lfts 0) (a : Dens κs write-data-kinds.ps) where
   pub write-data-determined : (r r′ : GraphicsDone) (e e′ : AtExit (endedOf 0 write-data-kinds.ps write-data-kinds.r) κs) → write-data.Post κs a r e → write-data.Post κs a r′ e′ → r ≡ r′
   write-data-determined r r′ e e′ p q = port-of r r′ p q
-
-module _ (κs : Lfts 0) (a : Dens κs map-address-kinds.ps) where
-  pub map-address-determined : (r r′ : MappedAnswer) (e e′ : AtExit (endedOf 0 map-address-kinds.ps map-address-kinds.r) κs) → map-address.Post κs a r e → map-address.Post κs a r′ e′ → r ≡ r′
-  map-address-determined r r′ e e′ p q = mapped-injective r r′ (answer-of p q)

@@ -1,8 +1,6 @@
-// The controller without its memory: its ports, the fields that are asked for, and the way from an address to a plane offset. The record stands in `machine`.
-mod address;
+// The controller without its memory: its ports, and the fields that are asked for. The record stands in `machine`.
 mod registers;
 
-pub use address::map_address;
 pub use registers::chain;
 pub use registers::chain4;
 pub use registers::memory_map;

@@ -4,14 +4,12 @@ ghost use mathlib.Core.List.{[]};
 ghost use Rattle.machine.specs.Memory.{before, after};
 ghost use Rattle.machine.specs.Answers.{one, part, outcome};
 ghost use Rattle.machine.specs.Calls.{cpuRead, cpuPeek, cpuWrite, serialize};
-ghost use Rattle.host_answers.specs.Answers.{answerSaid, shownOf};
+ghost use Rattle.host_answers.specs.Answers.{answerSaid};
+ghost use Rattle.host_wide_answers.specs.Wide.{shownOf};
 ghost use Rattle.host_calls.specs.Hosted.{held, cpuHosted};
 use host_answers::Answer;
-use host_answers::Shown;
 use host_answers::of_byte;
-use host_answers::of_part;
 use host_answers::unknown;
-use host_answers::unknown_shown;
 use host_calls::read_of;
 use host_calls::write_of;
 use host_records::record::ControllerRecord;
@@ -19,6 +17,9 @@ use host_records::record::SequencerRecord;
 use host_records::record::known;
 use host_records::record::to_controller;
 use host_records::record::to_sequencer;
+use host_wide_answers::Shown;
+use host_wide_answers::of_part;
+use host_wide_answers::unknown_shown;
 use machine::PlaneOffset;
 
 #[no_mangle]

@@ -4,14 +4,15 @@ ghost use Rattle.machine.specs.Memory.{before, after};
 ghost use Rattle.machine.specs.Answers.{outcome};
 ghost use Rattle.machine.specs.Calls.{readU8, peekU8, readGlyph, readLinear, serializeLinear, writeU8, planeSet, planeAnd, planeOr, deplane as remakes};
 ghost use Rattle.machine.specs.Step.{vramStep};
-ghost use Rattle.host_answers.specs.Answers.{answerSaid, pixelAnswerSaid, shownOf};
+ghost use Rattle.host_answers.specs.Answers.{answerSaid, pixelAnswerSaid};
+ghost use Rattle.host_wide_answers.specs.Wide.{shownOf};
 use host_answers::Answer;
-use host_answers::Shown;
 use host_answers::of_byte;
 use host_answers::of_done;
-use host_answers::of_part;
 use host_answers::of_pixel;
 use host_answers::of_store;
+use host_wide_answers::Shown;
+use host_wide_answers::of_part;
 use machine::PixelPlace;
 use machine::PlaneOffset;
 

@@ -4,14 +4,13 @@ ghost use Rattle.machine.specs.Answers.{one, outcome};
 ghost use Rattle.machine.specs.Sequencer.{freshSeq};
 ghost use Rattle.machine.specs.Calls.{seqReset, seqClock, seqSetClockChangePending, seqPollClockChange, seqReadAddress, seqReadData, seqWriteAddress, seqWriteData};
 ghost use Rattle.machine.specs.Step.{lifted, sequencerStep};
-ghost use Rattle.host_answers.specs.Answers.{answerSaid, clockSaid as clockAnswerSaid};
+ghost use Rattle.host_answers.specs.Answers.{answerSaid};
+ghost use Rattle.host_wide_answers.specs.Wide.{clockSaid as clockAnswerSaid};
 ghost use Rattle.host_records.specs.Records.{sequencerOf, sequencerRecordOf};
 ghost use Rattle.host_calls.specs.Hosted.{sequencerHosted};
 use host_answers::Answer;
-use host_answers::Clock;
 use host_answers::done;
 use host_answers::of_byte;
-use host_answers::of_clock;
 use host_answers::unknown;
 use host_records::left::SequencerAnswer;
 use host_records::left::of_sequencer_done;
@@ -21,6 +20,8 @@ use host_records::record::SequencerRecord;
 use host_records::record::known_sequencer;
 use host_records::record::of_sequencer;
 use host_records::record::to_sequencer;
+use host_wide_answers::Clock;
+use host_wide_answers::of_clock;
 use machine::Sequencer;
 
 // The start record.

@@ -1,20 +1,12 @@
-// The machine's answers in numbers, as a host takes them: 0 or a refusal's number, and the value beside it. No call is performed here.
+// The machine's answers in numbers, as a host takes them: 0 or a refusal's number, and a byte beside it. No call is performed here.
+// Over it: the controller's fields (`host_field_answers`) and what is wider than a byte (`host_wide_answers`).
 ghost use mathlib.Core.Path.{_≡_};
-ghost use mathlib.Core.List.{[]};
-ghost use Rattle.machine.specs.Answers.{refusalNumber, said, part as pixelsOf, byteSaid, pixelSaid, storeSaid, doneSaid, flagSaid, clockSaid, mapSaid, mapNumber, oddEvenSaid, oddEvenNumber, shiftSaid, shiftNumber, mappedSaid};
-ghost use Rattle.host_answers.specs.Answers.{answerSaid, pixelAnswerSaid, clockSaid as clockAnswerSaid, mappedSaid as mappedAnswerSaid, answerOf, shownOf};
+ghost use Rattle.machine.specs.Answers.{refusalNumber, byteSaid, pixelSaid, storeSaid, doneSaid, flagSaid};
+ghost use Rattle.host_answers.specs.Answers.{answerSaid, pixelAnswerSaid, answerOf};
 use machine::ByteAnswer;
-use machine::ClockAnswer;
 use machine::DoneAnswer;
 use machine::FlagAnswer;
-use machine::MapAnswer;
-use machine::MappedAnswer;
-use machine::MemoryMap;
-use machine::OddEvenAnswer;
-use machine::OddEvenModeComplement;
 use machine::Refusal;
-use machine::ShiftAnswer;
-use machine::ShiftMode;
 use machine::StoreAnswer;
 
 // A byte, a mark, an enum's place in its order; 0 where a call hands nothing back.
@@ -24,29 +16,7 @@ pub struct Answer {
     pub value: u8,
 }
 
-// The character clock.
-#[repr(C)]
-pub struct Clock {
-    pub clock: u32,
-    pub number: u8,
-}
-
-// Where an address leads.
-#[repr(C)]
-pub struct Mapped {
-    pub offset: usize,
-    pub number: u8,
-    pub a0: bool,
-}
-
-// The eight pixels of a show by value, since a part of a lent slice cannot cross the boundary; eight zeros where refused.
-#[repr(C)]
-pub struct Shown {
-    pub pixels: [u8; 8],
-    pub number: u8,
-}
-
-fn given(number: u8, value: u8) -> Answer
+pub fn given(number: u8, value: u8) -> Answer
     ensures { λ r. ⌜ r ≡ answerOf number value ⌝ }
 {
     Answer { number, value }
@@ -65,19 +35,10 @@ pub fn unknown() -> Answer
     given(6, 0)
 }
 
-fn refused(refusal: Refusal) -> Answer
+pub fn refused(refusal: Refusal) -> Answer
     ensures { λ r. ⌜ r ≡ answerOf (refusalNumber refusal) 0 ⌝ }
 {
     given(fields::refusal_number(refusal), 0)
-}
-
-pub fn unknown_shown() -> Shown
-    ensures { λ r. ⌜ r ≡ shownOf (said 6 (pixelsOf [])) ⌝ }
-{
-    Shown {
-        number: 6,
-        pixels: [0u8; 8],
-    }
 }
 
 pub fn of_byte(answer: ByteAnswer) -> Answer
@@ -123,114 +84,4 @@ pub fn of_flag(answer: FlagAnswer) -> Answer
         FlagAnswer::Done(set) => given(0, set as u8),
         FlagAnswer::Refused(x) => refused(x),
     }
-}
-
-pub fn of_clock(answer: ClockAnswer) -> Clock
-    ensures { λ r. ⌜ clockAnswerSaid r ≡ clockSaid answer ⌝ }
-{
-    match answer {
-        ClockAnswer::Done(clock) => Clock { clock, number: 0 },
-        ClockAnswer::Refused(x) => Clock {
-            clock: 0,
-            number: fields::refusal_number(x),
-        },
-    }
-}
-
-fn map_number(map: MemoryMap) -> u8
-    ensures { λ r. ⌜ r ≡ mapNumber map ⌝ }
-{
-    match map {
-        MemoryMap::A0000_128k => 0,
-        MemoryMap::A0000_64K => 1,
-        MemoryMap::B0000_32K => 2,
-        MemoryMap::B8000_32K => 3,
-    }
-}
-
-pub fn of_map(answer: MapAnswer) -> Answer
-    ensures { λ r. ⌜ answerSaid r ≡ mapSaid answer ⌝ }
-{
-    match answer {
-        MapAnswer::Done(map) => given(0, map_number(map)),
-        MapAnswer::Refused(x) => refused(x),
-    }
-}
-
-fn odd_even_number(mode: OddEvenModeComplement) -> u8
-    ensures { λ r. ⌜ r ≡ oddEvenNumber mode ⌝ }
-{
-    match mode {
-        OddEvenModeComplement::Sequential => 0,
-        OddEvenModeComplement::OddEven => 1,
-    }
-}
-
-pub fn of_odd_even(answer: OddEvenAnswer) -> Answer
-    ensures { λ r. ⌜ answerSaid r ≡ oddEvenSaid answer ⌝ }
-{
-    match answer {
-        OddEvenAnswer::Done(mode) => given(0, odd_even_number(mode)),
-        OddEvenAnswer::Refused(x) => refused(x),
-    }
-}
-
-fn shift_number(mode: ShiftMode) -> u8
-    ensures { λ r. ⌜ r ≡ shiftNumber mode ⌝ }
-{
-    match mode {
-        ShiftMode::Standard => 0,
-        ShiftMode::CGACompatible => 1,
-        ShiftMode::Chain4 => 2,
-        ShiftMode::Unused => 3,
-    }
-}
-
-pub fn of_shift(answer: ShiftAnswer) -> Answer
-    ensures { λ r. ⌜ answerSaid r ≡ shiftSaid answer ⌝ }
-{
-    match answer {
-        ShiftAnswer::Done(mode) => given(0, shift_number(mode)),
-        ShiftAnswer::Refused(x) => refused(x),
-    }
-}
-
-pub fn of_mapped(answer: MappedAnswer) -> Mapped
-    ensures { λ r. ⌜ mappedAnswerSaid r ≡ mappedSaid answer ⌝ }
-{
-    match answer {
-        MappedAnswer::Done(offset, a0) => Mapped {
-            offset: offset.0,
-            number: 0,
-            a0,
-        },
-        MappedAnswer::Refused(x) => Mapped {
-            offset: 0,
-            number: fields::refusal_number(x),
-            a0: false,
-        },
-    }
-}
-
-// A show's number, and its eight pixels where there are eight.
-pub fn of_part(number: u8, part: &[u8]) -> Shown
-    ensures { λ r. ⌜ r ≡ shownOf (said number (pixelsOf (now (part .entry)))) ⌝ }
-{
-    if part.len() != 8 {
-        return Shown {
-            number,
-            pixels: [0u8; 8],
-        };
-    }
-    let pixels = [
-        part[0],
-        part[1],
-        part[2],
-        part[3],
-        part[4],
-        part[5],
-        part[6],
-        part[7],
-    ];
-    Shown { number, pixels }
 }

@@ -21,7 +21,7 @@ use Rattle.machine.specs.Sequencer.{storedAt}
 use Rattle.machine.specs.Deeds.{latch, any, laid, remade, stored, storedByte, memoryAfter}
 use Rattle.machine.specs.Calls.{writeDeed}
 use Rattle.machine.proofs.Laws.{below, laid-more, laid-skip}
-use Rattle.write_path.specs.Written.{written, four}
+use Rattle.write_bytes.specs.Written.{written, four}
 use Rattle.visits.specs.Writes.{stores, storesTo}
 
 -- ---- four tests as four bits

@@ -17,8 +17,8 @@ use machine::GraphicsRegisters;
 use machine::Sequencer;
 use machine::WriteMode;
 use planes::PlaneStore;
+use write_bytes::written;
 use write_path::visited;
-use write_path::written;
 
 // The planes that are stored, as four bits: visited, and let through by the mask.
 fn stored_planes(
