@@ -6,9 +6,9 @@ use mathlib.Core.Bool.{Bool, true}
 use lib.Dec.{ltb}
 use borrow.Author.Tests.{lt-ltb}
 use Rattle.bits.specs.Bit.{bitOf}
-use Rattle.machine.specs.declared.answer.MappedAnswer.{MappedAnswer}
-use Rattle.machine.specs.declared.graphics.GraphicsController.{GraphicsController}
-use Rattle.machine.specs.declared.graphics.MemoryMap.{MemoryMap}
+use Rattle.types.specs.declared.answer.MappedAnswer.{MappedAnswer}
+use Rattle.types.specs.declared.graphics.GraphicsController.{GraphicsController}
+use Rattle.types.specs.declared.graphics.MemoryMap.{MemoryMap}
 use Rattle.machine.specs.Answers.{two, outcome, answered, mappedSaid}
 use Rattle.machine.specs.Graphics.{fitsGc, memoryMap, chained}
 use Rattle.machine.specs.Address.{inWindow, a0, mapped, offset}

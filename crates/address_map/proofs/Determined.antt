@@ -3,7 +3,7 @@ use mathlib.Core.Path.{_≡_}
 use contract.Lifetimes.{Lfts}
 use denote.Triple.Clauses.{AtExit}
 use borrow.Fn.Kinds.{Dens, endedOf}
-use Rattle.machine.specs.declared.answer.MappedAnswer.{MappedAnswer}
+use Rattle.types.specs.declared.answer.MappedAnswer.{MappedAnswer}
 use Rattle.machine.proofs.Injective.{answer-of, mapped-injective}
 use Rattle.address_map.proofs.map_address.Reads as map-address
 use Rattle.address_map.proofs.map_address.Kinds as map-address-kinds

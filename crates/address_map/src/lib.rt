@@ -4,9 +4,9 @@ ghost use Rattle.machine.specs.Answers.{outcome, mappedSaid};
 ghost use Rattle.machine.specs.Calls.{gcMapAddress};
 ghost use Rattle.machine.specs.Step.{graphicsStep};
 use judges::judge_address;
-use machine::GraphicsController;
-use machine::MappedAnswer;
 use record_judges::fits_gc;
+use types::GraphicsController;
+use types::MappedAnswer;
 
 // Of any memory: every offset of 16 bits is within 65,536.
 pub fn map_address(gc: GraphicsController, address: usize, page: bool) -> MappedAnswer

@@ -12,9 +12,9 @@ use list_lines::line::Line;
 use list_lines::print;
 use list_lines::said;
 use list_lines::said::Said;
-use machine::GraphicsController;
-use machine::Sequencer;
-use machine::Shape;
+use types::GraphicsController;
+use types::Sequencer;
+use types::Shape;
 
 pub struct Session {
     pub gc: GraphicsController,

@@ -1,14 +1,14 @@
 // The fields of the controller's kept bytes, a shift and a mask each, and its registers by number.
 ghost use mathlib.Core.Path.{_≡_};
 ghost use Rattle.machine.specs.Graphics.{rotateCount, logicFunction, writeMode, readMode, oddEven, shiftMode, chained, memoryMap, selects, registerNumber};
-use machine::GraphicsRegister;
-use machine::GraphicsRegisters;
-use machine::LogicFunction;
-use machine::MemoryMap;
-use machine::OddEvenModeComplement;
-use machine::ReadMode;
-use machine::ShiftMode;
-use machine::WriteMode;
+use types::GraphicsRegister;
+use types::GraphicsRegisters;
+use types::LogicFunction;
+use types::MemoryMap;
+use types::OddEvenModeComplement;
+use types::ReadMode;
+use types::ShiftMode;
+use types::WriteMode;
 
 // Data Rotate, bits 0-2.
 pub fn rotate_count(registers: GraphicsRegisters) -> u8

@@ -8,19 +8,19 @@ use lib.Dec.{ltb}
 use lib.ListN.{length, getD, take, drop}
 use borrow.Author.Tests.{ltb-true}
 use Rattle.bits.specs.Bit.{bitOf, pick}
-use Rattle.machine.specs.declared.answer.Refusal.{Refusal}
-use Rattle.machine.specs.declared.answer.MappedAnswer.{MappedAnswer}
-use Rattle.machine.specs.declared.answer.MappedAnswer.the-variants.{Done as MappedDone, Refused as MappedRefused}
-use Rattle.machine.specs.declared.place.PlaneOffset.{PlaneOffset}
-use Rattle.machine.specs.declared.graphics.WriteMode.{WriteMode}
-use Rattle.machine.specs.declared.graphics.WriteMode.the-variants.{Mode0, Mode1, Mode2, Invalid}
-use Rattle.machine.specs.declared.graphics.GraphicsRegisters.{GraphicsRegisters}
-use Rattle.machine.specs.declared.graphics.GraphicsController.{GraphicsController}
-use Rattle.machine.specs.declared.graphics.MemoryMap.{MemoryMap}
-use Rattle.machine.specs.declared.graphics.ReadMode.{ReadMode}
-use Rattle.machine.specs.declared.graphics.ReadMode.the-variants.{ReadSelectedPlane, ReadComparedPlanes}
-use Rattle.machine.specs.declared.sequencer.Sequencer.{Sequencer}
-use Rattle.machine.specs.declared.shape.Shape.{Shape}
+use Rattle.types.specs.declared.answer.Refusal.{Refusal}
+use Rattle.types.specs.declared.answer.MappedAnswer.{MappedAnswer}
+use Rattle.types.specs.declared.answer.MappedAnswer.the-variants.{Done as MappedDone, Refused as MappedRefused}
+use Rattle.types.specs.declared.place.PlaneOffset.{PlaneOffset}
+use Rattle.types.specs.declared.graphics.WriteMode.{WriteMode}
+use Rattle.types.specs.declared.graphics.WriteMode.the-variants.{Mode0, Mode1, Mode2, Invalid}
+use Rattle.types.specs.declared.graphics.GraphicsRegisters.{GraphicsRegisters}
+use Rattle.types.specs.declared.graphics.GraphicsController.{GraphicsController}
+use Rattle.types.specs.declared.graphics.MemoryMap.{MemoryMap}
+use Rattle.types.specs.declared.graphics.ReadMode.{ReadMode}
+use Rattle.types.specs.declared.graphics.ReadMode.the-variants.{ReadSelectedPlane, ReadComparedPlanes}
+use Rattle.types.specs.declared.sequencer.Sequencer.{Sequencer}
+use Rattle.types.specs.declared.shape.Shape.{Shape}
 use Rattle.machine.specs.Memory.{Memory, shape, sound}
 use Rattle.machine.specs.Answers.{refusalNumber, Value, one, two, blank, Said, said, part, Outcome, outcome, answered, mappedSaid}
 use Rattle.machine.specs.Graphics.{fitsGc, memoryMap, chained, oddEven, isOddEven, readMode, writeMode, shiftMode, gcOf}

@@ -7,11 +7,11 @@ use contract.Lifetimes.{Lfts}
 use denote.Ref.{RefT, now}
 use denote.Triple.Clauses.{AtExit}
 use borrow.Fn.Kinds.{Dens, endedOf}
-use Rattle.machine.specs.declared.answer.ByteAnswer.{ByteAnswer}
-use Rattle.machine.specs.declared.answer.StoreAnswer.{StoreAnswer}
-use Rattle.machine.specs.declared.answer.CpuByte.{CpuByte}
-use Rattle.machine.specs.declared.answer.CpuStore.{CpuStore}
-use Rattle.machine.specs.declared.graphics.GraphicsController.{GraphicsController}
+use Rattle.types.specs.declared.answer.ByteAnswer.{ByteAnswer}
+use Rattle.types.specs.declared.answer.StoreAnswer.{StoreAnswer}
+use Rattle.types.specs.declared.answer.CpuByte.{CpuByte}
+use Rattle.types.specs.declared.answer.CpuStore.{CpuStore}
+use Rattle.types.specs.declared.graphics.GraphicsController.{GraphicsController}
 use Rattle.machine.specs.Memory.{Memory, lent}
 use Rattle.machine.specs.Answers.{Said, Outcome, outcome, byteSaid, storeSaid}
 use Rattle.machine.specs.Step.{Device, device}

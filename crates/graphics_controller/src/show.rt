@@ -5,11 +5,11 @@ ghost use Rattle.machine.specs.Answers.{outcome, partSaid};
 ghost use Rattle.machine.specs.Calls.{serialize as serializes};
 ghost use Rattle.machine.specs.Step.{device, cpuStep};
 use judges::judge_show;
-use machine::DoneAnswer;
-use machine::GraphicsController;
-use machine::PlaneOffset;
-use machine::Sequencer;
-use machine::Shape;
+use types::DoneAnswer;
+use types::GraphicsController;
+use types::PlaneOffset;
+use types::Sequencer;
+use types::Shape;
 
 // The part, or an empty one where refused; the number beside it.
 pub fn serialize<'a, 'b, 'c, 'd, 'p, 'n>(

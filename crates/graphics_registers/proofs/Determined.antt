@@ -4,14 +4,14 @@ use mathlib.Core.Path.{_≡_, ap₂}
 use contract.Lifetimes.{Lfts}
 use denote.Triple.Clauses.{AtExit}
 use borrow.Fn.Kinds.{Dens, endedOf}
-use Rattle.machine.specs.declared.answer.ByteAnswer.{ByteAnswer}
-use Rattle.machine.specs.declared.answer.DoneAnswer.{DoneAnswer}
-use Rattle.machine.specs.declared.answer.FlagAnswer.{FlagAnswer}
-use Rattle.machine.specs.declared.answer.MapAnswer.{MapAnswer}
-use Rattle.machine.specs.declared.answer.OddEvenAnswer.{OddEvenAnswer}
-use Rattle.machine.specs.declared.answer.ShiftAnswer.{ShiftAnswer}
-use Rattle.machine.specs.declared.answer.GraphicsDone.{GraphicsDone}
-use Rattle.machine.specs.declared.graphics.GraphicsController.{GraphicsController}
+use Rattle.types.specs.declared.answer.ByteAnswer.{ByteAnswer}
+use Rattle.types.specs.declared.answer.DoneAnswer.{DoneAnswer}
+use Rattle.types.specs.declared.answer.FlagAnswer.{FlagAnswer}
+use Rattle.types.specs.declared.answer.MapAnswer.{MapAnswer}
+use Rattle.types.specs.declared.answer.OddEvenAnswer.{OddEvenAnswer}
+use Rattle.types.specs.declared.answer.ShiftAnswer.{ShiftAnswer}
+use Rattle.types.specs.declared.answer.GraphicsDone.{GraphicsDone}
+use Rattle.types.specs.declared.graphics.GraphicsController.{GraphicsController}
 use Rattle.machine.specs.Answers.{Outcome, outcome, doneSaid}
 use Rattle.machine.proofs.Injective.{answer-of, next-of, byte-injective, done-injective, flag-injective, map-injective, odd-even-injective, shift-injective}
 use Rattle.graphics_registers.proofs.registers.reset.Reads as reset

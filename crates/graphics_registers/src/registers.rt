@@ -4,19 +4,19 @@ ghost use Rattle.machine.specs.Answers.{said, one, outcome, byteSaid, doneSaid,
 ghost use Rattle.machine.specs.Graphics.{gcOf, withAddress, withData, dataOf};
 ghost use Rattle.machine.specs.Calls.{isChain4, gcReset, gcChain, gcChain4, gcMemoryMap, gcOddEven, gcShiftMode, gcReadAddress, gcReadData, gcWriteAddress, gcWriteData};
 ghost use Rattle.machine.specs.Step.{graphicsStep};
-use machine::ByteAnswer;
-use machine::DoneAnswer;
-use machine::FlagAnswer;
-use machine::GraphicsController;
-use machine::GraphicsDone;
-use machine::GraphicsRegister;
-use machine::GraphicsRegisters;
-use machine::MapAnswer;
-use machine::OddEvenAnswer;
-use machine::Refusal;
-use machine::ShiftAnswer;
-use machine::ShiftMode;
 use record_judges::fits_gc;
+use types::ByteAnswer;
+use types::DoneAnswer;
+use types::FlagAnswer;
+use types::GraphicsController;
+use types::GraphicsDone;
+use types::GraphicsRegister;
+use types::GraphicsRegisters;
+use types::MapAnswer;
+use types::OddEvenAnswer;
+use types::Refusal;
+use types::ShiftAnswer;
+use types::ShiftMode;
 
 // Any record is taken; latches and counters go back to the start too.
 pub fn reset(gc: GraphicsController) -> GraphicsController

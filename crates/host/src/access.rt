@@ -20,7 +20,7 @@ use host_records::record::to_sequencer;
 use host_wide_answers::Shown;
 use host_wide_answers::of_part;
 use host_wide_answers::unknown_shown;
-use machine::PlaneOffset;
+use types::PlaneOffset;
 
 #[no_mangle]
 pub extern "C" fn iddesmar_gc_cpu_read_u8(

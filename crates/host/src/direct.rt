@@ -18,8 +18,8 @@ use host_records::record::to_sequencer;
 use host_wide_answers::Shown;
 use host_wide_answers::of_part;
 use host_wide_answers::unknown_shown;
-use machine::PixelPlace;
-use machine::PlaneOffset;
+use types::PixelPlace;
+use types::PlaneOffset;
 
 #[no_mangle]
 pub extern "C" fn iddesmar_seq_cpu_read_u8(

@@ -13,8 +13,8 @@ use host_answers::of_pixel;
 use host_answers::of_store;
 use host_wide_answers::Shown;
 use host_wide_answers::of_part;
-use machine::PixelPlace;
-use machine::PlaneOffset;
+use types::PixelPlace;
+use types::PlaneOffset;
 
 #[no_mangle]
 pub extern "C" fn iddesmar_vram_read_u8(

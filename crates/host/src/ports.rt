@@ -1,7 +1,7 @@
 // The controller's ports and fields. The two ports and the reset update the record where it stands; what only asks takes it by value.
 ghost use mathlib.Core.Path.{_≡_};
 ghost use Rattle.machine.specs.Answers.{one, two, outcome};
-ghost use Rattle.machine.specs.Graphics.{freshGc};
+ghost use Rattle.types.specs.Start.{freshGc};
 ghost use Rattle.machine.specs.Calls.{gcReset, gcChain, gcChain4, gcMemoryMap, gcOddEven, gcShiftMode, gcReadAddress, gcReadData, gcWriteAddress, gcWriteData, gcMapAddress};
 ghost use Rattle.machine.specs.Step.{lifted, graphicsStep};
 ghost use Rattle.host_answers.specs.Answers.{answerSaid};
@@ -24,7 +24,7 @@ use host_records::record::of_controller;
 use host_records::record::to_controller;
 use host_wide_answers::Mapped;
 use host_wide_answers::of_mapped;
-use machine::GraphicsController;
+use types::GraphicsController;
 
 // The start record.
 #[no_mangle]

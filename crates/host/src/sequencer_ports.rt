@@ -1,7 +1,7 @@
 // The sequencer's ports, its clock and the pending mark, on its record by value.
 ghost use mathlib.Core.Path.{_≡_};
 ghost use Rattle.machine.specs.Answers.{one, outcome};
-ghost use Rattle.machine.specs.Sequencer.{freshSeq};
+ghost use Rattle.types.specs.Start.{freshSeq};
 ghost use Rattle.machine.specs.Calls.{seqReset, seqClock, seqSetClockChangePending, seqPollClockChange, seqReadAddress, seqReadData, seqWriteAddress, seqWriteData};
 ghost use Rattle.machine.specs.Step.{lifted, sequencerStep};
 ghost use Rattle.host_answers.specs.Answers.{answerSaid};
@@ -22,7 +22,7 @@ use host_records::record::of_sequencer;
 use host_records::record::to_sequencer;
 use host_wide_answers::Clock;
 use host_wide_answers::of_clock;
-use machine::Sequencer;
+use types::Sequencer;
 
 // The start record.
 #[no_mangle]

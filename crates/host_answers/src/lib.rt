@@ -3,11 +3,11 @@
 ghost use mathlib.Core.Path.{_≡_};
 ghost use Rattle.machine.specs.Answers.{refusalNumber, byteSaid, pixelSaid, storeSaid, doneSaid, flagSaid};
 ghost use Rattle.host_answers.specs.Answers.{answerSaid, pixelAnswerSaid, answerOf};
-use machine::ByteAnswer;
-use machine::DoneAnswer;
-use machine::FlagAnswer;
-use machine::Refusal;
-use machine::StoreAnswer;
+use types::ByteAnswer;
+use types::DoneAnswer;
+use types::FlagAnswer;
+use types::Refusal;
+use types::StoreAnswer;
 
 // A byte, a mark, an enum's place in its order; 0 where a call hands nothing back.
 #[repr(C)]

@@ -5,12 +5,12 @@ ghost use Rattle.host_answers.specs.Answers.{answerSaid};
 use host_answers::Answer;
 use host_answers::given;
 use host_answers::refused;
-use machine::MapAnswer;
-use machine::MemoryMap;
-use machine::OddEvenAnswer;
-use machine::OddEvenModeComplement;
-use machine::ShiftAnswer;
-use machine::ShiftMode;
+use types::MapAnswer;
+use types::MemoryMap;
+use types::OddEvenAnswer;
+use types::OddEvenModeComplement;
+use types::ShiftAnswer;
+use types::ShiftMode;
 
 fn map_number(map: MemoryMap) -> u8
     ensures { λ r. ⌜ r ≡ mapNumber map ⌝ }

@@ -4,7 +4,7 @@ use native.Mathlib.Omega.{arith}
 use mathlib.Core.Path.{_≡_, refl, sym}
 use mathlib.Core.Bool.{true}
 use borrow.Author.Tests.{leb-true}
-use Rattle.machine.specs.declared.graphics.GraphicsRegister.the-variants.{BitMask}
+use Rattle.types.specs.declared.graphics.GraphicsRegister.the-variants.{BitMask}
 use Rattle.machine.specs.Graphics.{selects, registerNumber}
 use Rattle.machine.specs.Sequencer.{selectsSeq, seqNumber}
 use Rattle.machine.proofs.Laws.{both}

@@ -1,10 +1,10 @@
 -- How a host's records, numbers alone, are read as the machine's, and the machine's as a host's.
 use mathlib.Core.Bool.{Bool, _&&_}
 use lib.Dec.{leb}
-use Rattle.machine.specs.declared.graphics.GraphicsController.{GraphicsController}
-use Rattle.machine.specs.declared.graphics.GraphicsControllerStats.{GraphicsControllerStats}
-use Rattle.machine.specs.declared.graphics.GraphicsRegister.the-variants.{BitMask}
-use Rattle.machine.specs.declared.sequencer.Sequencer.{Sequencer}
+use Rattle.types.specs.declared.graphics.GraphicsController.{GraphicsController}
+use Rattle.types.specs.declared.graphics.GraphicsControllerStats.{GraphicsControllerStats}
+use Rattle.types.specs.declared.graphics.GraphicsRegister.the-variants.{BitMask}
+use Rattle.types.specs.declared.sequencer.Sequencer.{Sequencer}
 use Rattle.machine.specs.Graphics.{selects, registerNumber, gcOf}
 use Rattle.machine.specs.Sequencer.{selectsSeq, seqNumber}
 use Rattle.host_records.specs.declared.record.StatsRecord.{StatsRecord}

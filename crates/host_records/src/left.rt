@@ -15,10 +15,10 @@ use host_answers::of_done;
 use host_answers::of_flag;
 use host_answers::of_store;
 use host_answers::unknown;
-use machine::CpuStore;
-use machine::GraphicsDone;
-use machine::SequencerDone;
-use machine::SequencerFlag;
+use types::CpuStore;
+use types::GraphicsDone;
+use types::SequencerDone;
+use types::SequencerFlag;
 
 // An answer and the sequencer's record as it is left.
 #[repr(C)]

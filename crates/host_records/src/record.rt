@@ -1,11 +1,11 @@
 // The two records as a host keeps them: numbers and flags alone, since an enum cannot cross the boundary. The selected register is its number.
 ghost use mathlib.Core.Path.{_≡_};
 ghost use Rattle.host_records.specs.Records.{statsOf, statsRecordOf, controllerOf, recordOf, sequencerOf, sequencerRecordOf, knownGc as knowsGc, knownSeq as knowsSeq, known as knows};
-use machine::GraphicsController;
-use machine::GraphicsControllerStats;
-use machine::GraphicsRegister;
-use machine::GraphicsRegisters;
-use machine::Sequencer;
+use types::GraphicsController;
+use types::GraphicsControllerStats;
+use types::GraphicsRegister;
+use types::GraphicsRegisters;
+use types::Sequencer;
 
 // The counters.
 #[repr(C)]

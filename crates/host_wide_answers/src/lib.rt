@@ -3,8 +3,8 @@ ghost use mathlib.Core.Path.{_≡_};
 ghost use mathlib.Core.List.{[]};
 ghost use Rattle.machine.specs.Answers.{said, part as pixelsOf, clockSaid, mappedSaid};
 ghost use Rattle.host_wide_answers.specs.Wide.{clockSaid as clockAnswerSaid, mappedSaid as mappedAnswerSaid, shownOf};
-use machine::ClockAnswer;
-use machine::MappedAnswer;
+use types::ClockAnswer;
+use types::MappedAnswer;
 
 // The character clock.
 #[repr(C)]

@@ -7,7 +7,7 @@ use borrow.Author.Tests.{leb-true}
 use lib.Bits.{bitAnd, bitOr, and-mask, and-high, or-shifted}
 use Rattle.bits.specs.Bit.{bit, isOne, bitOf}
 use Rattle.bits.proofs.Laws.{bit-lt, bit-zero}
-use Rattle.machine.specs.declared.graphics.MemoryMap.the-variants.{«A0000_64K», «B8000_32K»}
+use Rattle.types.specs.declared.graphics.MemoryMap.the-variants.{«A0000_64K», «B8000_32K»}
 use Rattle.machine.specs.Address.{inWindow, withBit0, a0}
 use Rattle.machine.specs.Answers.{Value, Said, Outcome, outcome, answered}
 use Rattle.machine.proofs.Laws.{both}

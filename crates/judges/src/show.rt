@@ -2,15 +2,15 @@
 ghost use mathlib.Core.Path.{_≡_};
 ghost use Rattle.machine.specs.Answers.{doneSaid};
 ghost use Rattle.machine.specs.Calls.{shows as showsIn, showNumber};
-use machine::DoneAnswer;
-use machine::GraphicsRegisters;
-use machine::PlaneOffset;
-use machine::Refusal;
-use machine::Sequencer;
-use machine::Shape;
-use machine::ShiftMode;
 use memory_judges::shaped;
 use record_judges::fits_both;
+use types::DoneAnswer;
+use types::GraphicsRegisters;
+use types::PlaneOffset;
+use types::Refusal;
+use types::Sequencer;
+use types::Shape;
+use types::ShiftMode;
 
 // Whether a show is answered from the picture.
 fn shows(mode: ShiftMode) -> bool

@@ -3,8 +3,8 @@ use list_lines::line::Call;
 use list_lines::line::byte;
 use list_lines::said;
 use list_lines::said::Said;
-use machine::GraphicsController;
-use machine::GraphicsDone;
+use types::GraphicsController;
+use types::GraphicsDone;
 
 pub struct GraphicsLeft {
     pub gc: GraphicsController,

@@ -5,10 +5,10 @@ use graphics_controller::cpu_read_u8;
 use list_lines::line::Call;
 use list_lines::said;
 use list_lines::said::Said;
-use machine::GraphicsController;
-use machine::PixelPlace;
-use machine::PlaneOffset;
-use machine::Sequencer;
+use types::GraphicsController;
+use types::PixelPlace;
+use types::PlaneOffset;
+use types::Sequencer;
 
 // What a show's number is before the call: no answer has it.
 const UNTOLD: u8 = 255;

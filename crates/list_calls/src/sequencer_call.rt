@@ -3,8 +3,8 @@ use list_lines::line::Call;
 use list_lines::line::byte;
 use list_lines::said;
 use list_lines::said::Said;
-use machine::Sequencer;
-use machine::SequencerDone;
+use types::Sequencer;
+use types::SequencerDone;
 
 pub struct SequencerLeft {
     pub seq: Sequencer,

@@ -6,12 +6,12 @@ use list_lines::line::byte;
 use list_lines::said::Said;
 use list_lines::said::done;
 use list_lines::said::store;
-use machine::GraphicsController;
-use machine::PlaneOffset;
-use machine::Sequencer;
 use sequencer::plane_and;
 use sequencer::plane_or;
 use sequencer::plane_set;
+use types::GraphicsController;
+use types::PlaneOffset;
+use types::Sequencer;
 
 pub fn is_store(operation: usize) -> bool {
     match operation {

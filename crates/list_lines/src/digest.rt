@@ -2,11 +2,11 @@
 use crate::print;
 use crate::print::numbers;
 use crate::said::bit;
-use machine::GraphicsController;
-use machine::GraphicsControllerStats;
-use machine::GraphicsRegisters;
-use machine::Sequencer;
 use std::num::wrapping_add_u32;
+use types::GraphicsController;
+use types::GraphicsControllerStats;
+use types::GraphicsRegisters;
+use types::Sequencer;
 
 fn byte(x: u8) -> u64 {
     x as u64

@@ -2,19 +2,19 @@
 use crate::print::nibble;
 use crate::print::number;
 use crate::print::put;
-use machine::ByteAnswer;
-use machine::ClockAnswer;
-use machine::DoneAnswer;
-use machine::FlagAnswer;
-use machine::MapAnswer;
-use machine::MappedAnswer;
-use machine::MemoryMap;
-use machine::OddEvenAnswer;
-use machine::OddEvenModeComplement;
-use machine::Refusal;
-use machine::ShiftAnswer;
-use machine::ShiftMode;
-use machine::StoreAnswer;
+use types::ByteAnswer;
+use types::ClockAnswer;
+use types::DoneAnswer;
+use types::FlagAnswer;
+use types::MapAnswer;
+use types::MappedAnswer;
+use types::MemoryMap;
+use types::OddEvenAnswer;
+use types::OddEvenModeComplement;
+use types::Refusal;
+use types::ShiftAnswer;
+use types::ShiftMode;
+use types::StoreAnswer;
 
 // The answer's number, and what it hands back.
 pub enum Said {

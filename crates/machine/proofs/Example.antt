@@ -12,8 +12,8 @@ use Rattle.bits.proofs.Laws.{bit-high}
 use Rattle.bits.proofs.Decide.{agree1}
 use Rattle.machine.specs.Memory.{Memory, mem, plane}
 use Rattle.machine.specs.Answers.{one, part, said}
-use Rattle.machine.specs.Graphics.{gcOf, freshGc}
-use Rattle.machine.specs.Sequencer.{freshSeq}
+use Rattle.machine.specs.Graphics.{gcOf}
+use Rattle.types.specs.Start.{freshGc, freshSeq}
 use Rattle.machine.specs.Deeds.{latch, pixelOf}
 use Rattle.machine.specs.Calls.{SequencerCall, GraphicsCall, readU8, seqWriteAddress, seqWriteData, gcWriteAddress, gcWriteData, cpuRead, cpuPeek, cpuWrite, serialize}
 use Rattle.machine.specs.Step.{State, state, Call, vram, sequencer, graphics, cpu}

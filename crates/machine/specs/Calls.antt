@@ -3,21 +3,22 @@ use Prim.Native.Nat.{ℕ, _+_, _*_, _%_, _^_, min, max}
 use mathlib.Core.Bool.{Bool, true, false, _&&_}
 use lib.Dec.{eqb, ltb, leb}
 use Rattle.bits.specs.Bit.{bit, bitOf, pick}
-use Rattle.machine.specs.declared.graphics.GraphicsRegisters.{GraphicsRegisters}
-use Rattle.machine.specs.declared.graphics.GraphicsControllerStats.{GraphicsControllerStats}
-use Rattle.machine.specs.declared.graphics.GraphicsController.{GraphicsController}
-use Rattle.machine.specs.declared.graphics.ReadMode.{ReadMode}
-use Rattle.machine.specs.declared.graphics.ReadMode.the-variants.{ReadSelectedPlane, ReadComparedPlanes}
-use Rattle.machine.specs.declared.graphics.WriteMode.{WriteMode}
-use Rattle.machine.specs.declared.graphics.WriteMode.the-variants.{Mode0, Mode1, Mode2, Invalid}
-use Rattle.machine.specs.declared.graphics.ShiftMode.{ShiftMode}
-use Rattle.machine.specs.declared.graphics.ShiftMode.the-variants.{Standard, CGACompatible, Chain4, Unused}
-use Rattle.machine.specs.declared.sequencer.Sequencer.{Sequencer}
-use Rattle.machine.specs.declared.shape.Shape.{Shape}
+use Rattle.types.specs.declared.graphics.GraphicsRegisters.{GraphicsRegisters}
+use Rattle.types.specs.declared.graphics.GraphicsControllerStats.{GraphicsControllerStats}
+use Rattle.types.specs.declared.graphics.GraphicsController.{GraphicsController}
+use Rattle.types.specs.declared.graphics.ReadMode.{ReadMode}
+use Rattle.types.specs.declared.graphics.ReadMode.the-variants.{ReadSelectedPlane, ReadComparedPlanes}
+use Rattle.types.specs.declared.graphics.WriteMode.{WriteMode}
+use Rattle.types.specs.declared.graphics.WriteMode.the-variants.{Mode0, Mode1, Mode2, Invalid}
+use Rattle.types.specs.declared.graphics.ShiftMode.{ShiftMode}
+use Rattle.types.specs.declared.graphics.ShiftMode.the-variants.{Standard, CGACompatible, Chain4, Unused}
+use Rattle.types.specs.declared.sequencer.Sequencer.{Sequencer}
+use Rattle.types.specs.declared.shape.Shape.{Shape}
 use Rattle.machine.specs.Memory.{size, sound}
 use Rattle.machine.specs.Answers.{Value, one, two, mapNumber, oddEvenNumber, shiftNumber}
-use Rattle.machine.specs.Graphics.{withAddress, withData, dataOf, fitsGc, writeMode, readMode, oddEven, shiftMode, chained, memoryMap, gcOf, freshGc}
-use Rattle.machine.specs.Sequencer.{withSeqAddress, withSeqData, seqDataOf, withMark, fitsSeq, inMask, storedAt, gcReadAt, freshSeq}
+use Rattle.machine.specs.Graphics.{withAddress, withData, dataOf, fitsGc, writeMode, readMode, oddEven, shiftMode, chained, memoryMap, gcOf}
+use Rattle.types.specs.Start.{freshGc, freshSeq}
+use Rattle.machine.specs.Sequencer.{withSeqAddress, withSeqData, seqDataOf, withMark, fitsSeq, inMask, storedAt, gcReadAt}
 use Rattle.machine.specs.Address.{inWindow, a0, offset}
 use Rattle.machine.specs.DataPath.{writtenBit, visits, selectedPlane}
 use Rattle.machine.specs.Deeds.{Deed, rest, load, store, remake, Reply, known, byteAt, compare, pixelAt, pixelsAt, Plan, plan}

@@ -7,12 +7,12 @@ use mathlib.Core.List.{List, [], _∷_}
 use lib.Dec.{eqb}
 use lib.ListN.{length, getD}
 use Rattle.bits.specs.Bit.{pick}
-use Rattle.machine.specs.declared.graphics.MemoryMap.{MemoryMap}
-use Rattle.machine.specs.declared.graphics.MemoryMap.the-variants.{«A0000_128k», «A0000_64K», «B0000_32K», «B8000_32K»}
-use Rattle.machine.specs.declared.graphics.ShiftMode.the-variants.{CGACompatible, Chain4}
-use Rattle.machine.specs.declared.graphics.GraphicsRegisters.{GraphicsRegisters}
-use Rattle.machine.specs.declared.graphics.GraphicsControllerStats.{GraphicsControllerStats}
-use Rattle.machine.specs.declared.sequencer.Sequencer.{Sequencer}
+use Rattle.types.specs.declared.graphics.MemoryMap.{MemoryMap}
+use Rattle.types.specs.declared.graphics.MemoryMap.the-variants.{«A0000_128k», «A0000_64K», «B0000_32K», «B8000_32K»}
+use Rattle.types.specs.declared.graphics.ShiftMode.the-variants.{CGACompatible, Chain4}
+use Rattle.types.specs.declared.graphics.GraphicsRegisters.{GraphicsRegisters}
+use Rattle.types.specs.declared.graphics.GraphicsControllerStats.{GraphicsControllerStats}
+use Rattle.types.specs.declared.sequencer.Sequencer.{Sequencer}
 use Rattle.machine.specs.Memory.{Memory, shape, Shaped}
 use Rattle.machine.specs.Answers.{blank, Outcome}
 use Rattle.machine.specs.Graphics.{shiftMode, memoryMap}

@@ -5,23 +5,23 @@ use mathlib.Core.List.{List, [], _∷_}
 use lib.Dec.{eqb, leb}
 use lib.ListN.{getD}
 use Rattle.bits.specs.Bit.{bit, field, isOne, pick}
-use Rattle.machine.specs.declared.graphics.GraphicsRegister.{GraphicsRegister}
-use Rattle.machine.specs.declared.graphics.GraphicsRegister.the-variants.{SetReset, EnableSetReset, ColorCompare, DataRotate, ReadMapSelect, Mode, Miscellaneous, ColorDontCare, BitMask}
-use Rattle.machine.specs.declared.graphics.OddEvenModeComplement.{OddEvenModeComplement}
-use Rattle.machine.specs.declared.graphics.OddEvenModeComplement.the-variants.{Sequential, OddEven}
-use Rattle.machine.specs.declared.graphics.MemoryMap.{MemoryMap}
-use Rattle.machine.specs.declared.graphics.MemoryMap.the-variants.{«A0000_128k», «A0000_64K», «B0000_32K», «B8000_32K»}
-use Rattle.machine.specs.declared.graphics.LogicFunction.{LogicFunction}
-use Rattle.machine.specs.declared.graphics.LogicFunction.the-variants.{Unmodified, And, Or, Xor}
-use Rattle.machine.specs.declared.graphics.WriteMode.{WriteMode}
-use Rattle.machine.specs.declared.graphics.WriteMode.the-variants.{Mode0, Mode1, Mode2, Invalid}
-use Rattle.machine.specs.declared.graphics.ReadMode.{ReadMode}
-use Rattle.machine.specs.declared.graphics.ReadMode.the-variants.{ReadSelectedPlane, ReadComparedPlanes}
-use Rattle.machine.specs.declared.graphics.ShiftMode.{ShiftMode}
-use Rattle.machine.specs.declared.graphics.ShiftMode.the-variants.{Standard, CGACompatible, Chain4, Unused}
-use Rattle.machine.specs.declared.graphics.GraphicsRegisters.{GraphicsRegisters}
-use Rattle.machine.specs.declared.graphics.GraphicsControllerStats.{GraphicsControllerStats}
-use Rattle.machine.specs.declared.graphics.GraphicsController.{GraphicsController}
+use Rattle.types.specs.declared.graphics.GraphicsRegister.{GraphicsRegister}
+use Rattle.types.specs.declared.graphics.GraphicsRegister.the-variants.{SetReset, EnableSetReset, ColorCompare, DataRotate, ReadMapSelect, Mode, Miscellaneous, ColorDontCare, BitMask}
+use Rattle.types.specs.declared.graphics.OddEvenModeComplement.{OddEvenModeComplement}
+use Rattle.types.specs.declared.graphics.OddEvenModeComplement.the-variants.{Sequential, OddEven}
+use Rattle.types.specs.declared.graphics.MemoryMap.{MemoryMap}
+use Rattle.types.specs.declared.graphics.MemoryMap.the-variants.{«A0000_128k», «A0000_64K», «B0000_32K», «B8000_32K»}
+use Rattle.types.specs.declared.graphics.LogicFunction.{LogicFunction}
+use Rattle.types.specs.declared.graphics.LogicFunction.the-variants.{Unmodified, And, Or, Xor}
+use Rattle.types.specs.declared.graphics.WriteMode.{WriteMode}
+use Rattle.types.specs.declared.graphics.WriteMode.the-variants.{Mode0, Mode1, Mode2, Invalid}
+use Rattle.types.specs.declared.graphics.ReadMode.{ReadMode}
+use Rattle.types.specs.declared.graphics.ReadMode.the-variants.{ReadSelectedPlane, ReadComparedPlanes}
+use Rattle.types.specs.declared.graphics.ShiftMode.{ShiftMode}
+use Rattle.types.specs.declared.graphics.ShiftMode.the-variants.{Standard, CGACompatible, Chain4, Unused}
+use Rattle.types.specs.declared.graphics.GraphicsRegisters.{GraphicsRegisters}
+use Rattle.types.specs.declared.graphics.GraphicsControllerStats.{GraphicsControllerStats}
+use Rattle.types.specs.declared.graphics.GraphicsController.{GraphicsController}
 
 -- ---- the address register
 
@@ -156,22 +156,3 @@ isOddEven OddEven = true
 -- the controller's record of registers, counters and latches
 abbrev pub gcOf : GraphicsRegisters → GraphicsControllerStats → List ℕ → GraphicsController
 gcOf r c l = record { registers = r; stats = c; latches = l }
-
--- the GC's start: all 0, latches and counters too
-abbrev pub freshGc : GraphicsController
-freshGc = gcOf
-    (record {
-      «register_select_byte» = 0;
-      «register_selected» = SetReset;
-      «set_reset» = 0;
-      «enable_set_reset» = 0;
-      «color_compare» = 0;
-      «data_rotate» = 0;
-      «read_map_select» = 0;
-      mode = 0;
-      miscellaneous = 0;
-      «color_dont_care» = 0;
-      bitmask = 0;
-    })
-    (record { «mode_0_writes» = 0; «mode_1_writes» = 0; «mode_2_writes» = 0; «mode_3_writes» = 0; «mode_0_reads» = 0; «mode_1_reads» = 0 })
-    (0 ∷ 0 ∷ 0 ∷ 0 ∷ [])

@@ -5,10 +5,10 @@ use mathlib.Core.Path.{_≡_}
 use mathlib.Core.List.{List, [], _∷_, map}
 use lib.ListN.{length}
 use Rattle.bits.specs.Bit.{bit}
-use Rattle.machine.specs.declared.graphics.GraphicsRegisters.{GraphicsRegisters}
-use Rattle.machine.specs.declared.graphics.GraphicsController.{GraphicsController}
-use Rattle.machine.specs.declared.graphics.ReadMode.{ReadMode}
-use Rattle.machine.specs.declared.graphics.ReadMode.the-variants.{ReadSelectedPlane, ReadComparedPlanes}
+use Rattle.types.specs.declared.graphics.GraphicsRegisters.{GraphicsRegisters}
+use Rattle.types.specs.declared.graphics.GraphicsController.{GraphicsController}
+use Rattle.types.specs.declared.graphics.ReadMode.{ReadMode}
+use Rattle.types.specs.declared.graphics.ReadMode.the-variants.{ReadSelectedPlane, ReadComparedPlanes}
 use Rattle.machine.specs.Memory.{Memory, plane}
 use Rattle.machine.specs.Answers.{Value, one, two, pixel, part, Said, said, Outcome}
 use Rattle.machine.specs.Graphics.{readMode}

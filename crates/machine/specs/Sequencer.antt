@@ -5,11 +5,11 @@ use mathlib.Core.List.{[], _∷_}
 use lib.Dec.{eqb, leb}
 use lib.ListN.{getD}
 use Rattle.bits.specs.Bit.{bit, field, isOne, bitOf, pick}
-use Rattle.machine.specs.declared.sequencer.SequencerRegister.{SequencerRegister}
-use Rattle.machine.specs.declared.sequencer.SequencerRegister.the-variants.{Reset, ClockingMode, MapMask, CharacterMapSelect, MemoryMode, Invalid}
-use Rattle.machine.specs.declared.sequencer.OddEvenMode.{OddEvenMode}
-use Rattle.machine.specs.declared.sequencer.OddEvenMode.the-variants.{OddEven, Sequential}
-use Rattle.machine.specs.declared.sequencer.Sequencer.{Sequencer}
+use Rattle.types.specs.declared.sequencer.SequencerRegister.{SequencerRegister}
+use Rattle.types.specs.declared.sequencer.SequencerRegister.the-variants.{Reset, ClockingMode, MapMask, CharacterMapSelect, MemoryMode, Invalid}
+use Rattle.types.specs.declared.sequencer.OddEvenMode.{OddEvenMode}
+use Rattle.types.specs.declared.sequencer.OddEvenMode.the-variants.{OddEven, Sequential}
+use Rattle.types.specs.declared.sequencer.Sequencer.{Sequencer}
 
 -- ---- the address register
 
@@ -135,20 +135,3 @@ storedAt s o = pick (chainFour s) (o / 4 * 4) o
 -- `gc_read_u8`: sequential with chain-four set reads at the offset with its low two bits clear, otherwise as it stands
 unfoldable pub gcReadAt : Sequencer → ℕ → ℕ
 gcReadAt s o = pick (isSeqOddEven (seqOddEven s)) o (storedAt s o)
-
--- ---- the record
-
--- the sequencer's start: all registers 0, Reset selected, divisor 1, character clock 9, no change pending
-abbrev pub freshSeq : Sequencer
-freshSeq = record {
-  «address_byte» = 0;
-  «register_selected» = Reset;
-  reset = 0;
-  «clocking_mode» = 0;
-  «map_mask» = 0;
-  «character_map_select» = 0;
-  «memory_mode» = 0;
-  «clock_change_pending» = false;
-  «clock_divisor» = 1;
-  «char_clock» = 9;
-}

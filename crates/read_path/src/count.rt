@@ -1,8 +1,8 @@
 // The two counters of accepted reads.
 ghost use mathlib.Core.Path.{_≡_};
 ghost use Rattle.machine.specs.Calls.{counted, readCounter};
-use machine::GraphicsControllerStats;
-use machine::ReadMode;
+use types::GraphicsControllerStats;
+use types::ReadMode;
 
 pub fn counted_read(mode: ReadMode, stats: GraphicsControllerStats) -> GraphicsControllerStats
     ensures { λ r. ⌜ r ≡ counted (readCounter mode) stats ⌝ }

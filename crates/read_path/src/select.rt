@@ -1,8 +1,8 @@
 // The plane of a selected-plane read.
 ghost use mathlib.Core.Path.{_≡_};
 ghost use Rattle.machine.specs.DataPath.{selectedPlane};
-use machine::GraphicsRegisters;
-use machine::OddEvenModeComplement;
+use types::GraphicsRegisters;
+use types::OddEvenModeComplement;
 
 // Under odd/even the address's bit 0 takes the place of the map select's.
 pub fn selected_plane(registers: GraphicsRegisters, address: usize) -> usize

@@ -3,8 +3,8 @@ ghost use mathlib.Core.Path.{_≡_};
 ghost use Rattle.machine.specs.Graphics.{fitsGc};
 ghost use Rattle.machine.specs.Sequencer.{fitsSeq};
 ghost use Rattle.machine.specs.Calls.{fitsBoth};
-use machine::GraphicsRegisters;
-use machine::Sequencer;
+use types::GraphicsRegisters;
+use types::Sequencer;
 
 // The controller's.
 pub fn fits_gc(registers: GraphicsRegisters) -> bool

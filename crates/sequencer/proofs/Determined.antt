@@ -3,7 +3,7 @@ use mathlib.Core.Path.{_≡_}
 use contract.Lifetimes.{Lfts}
 use denote.Triple.Clauses.{AtExit}
 use borrow.Fn.Kinds.{Dens, endedOf}
-use Rattle.machine.specs.declared.answer.StoreAnswer.{StoreAnswer}
+use Rattle.types.specs.declared.answer.StoreAnswer.{StoreAnswer}
 use Rattle.machine.specs.Memory.{Memory, lent}
 use Rattle.machine.proofs.Injective.{answer-of, next-of, store-injective}
 use Rattle.sequencer.proofs.direct.plane_set.Reads as plane-set

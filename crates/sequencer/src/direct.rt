@@ -12,13 +12,13 @@ ghost use Rattle.machine.specs.Calls.{storeOne, seqPlaneSet, seqPlaneAnd, seqPl
 ghost use Rattle.machine.specs.Step.{directStep};
 ghost use Rattle.planes.specs.Stores.{storeBit};
 ghost use Rattle.sequencer.specs.Direct.{storeCall};
-use machine::DoneAnswer;
-use machine::PlaneOffset;
-use machine::Sequencer;
-use machine::Shape;
-use machine::StoreAnswer;
 use plane_masks::inner;
 use planes::PlaneStore;
+use types::DoneAnswer;
+use types::PlaneOffset;
+use types::Sequencer;
+use types::Shape;
+use types::StoreAnswer;
 
 // A store, already judged: where the mask has the plane, its byte and its eight pixels; else nothing.
 fn store_masked(

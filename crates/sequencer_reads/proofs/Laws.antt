@@ -3,11 +3,11 @@ use Prim.Native.Nat.{ℕ, _≤_, _<_}
 use native.Mathlib.Omega.{arith}
 use mathlib.Core.Path.{_≡_, refl, sym, ap, _∙_}
 use mathlib.Core.Bool.{Bool, true}
-use Rattle.machine.specs.declared.sequencer.Sequencer.{Sequencer}
-use Rattle.machine.specs.declared.answer.Refusal.{Refusal}
+use Rattle.types.specs.declared.sequencer.Sequencer.{Sequencer}
+use Rattle.types.specs.declared.answer.Refusal.{Refusal}
 use Rattle.machine.specs.Memory.{Memory, shape}
-use Rattle.machine.specs.declared.answer.DoneAnswer.{DoneAnswer}
-use Rattle.machine.specs.declared.answer.DoneAnswer.the-variants.{Done, Refused}
+use Rattle.types.specs.declared.answer.DoneAnswer.{DoneAnswer}
+use Rattle.types.specs.declared.answer.DoneAnswer.the-variants.{Done, Refused}
 use Rattle.machine.specs.Answers.{refusalNumber, said, one, outcome, doneSaid}
 use Rattle.machine.specs.Deeds.{byte, memoryAfter, valueOf}
 use Rattle.machine.specs.Sequencer.{fitsSeq}

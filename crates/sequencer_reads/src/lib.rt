@@ -6,14 +6,14 @@ ghost use Rattle.machine.specs.Sequencer.{fitsSeq};
 ghost use Rattle.machine.specs.Calls.{refuse, planeNumber, seqCpuReadU8, seqGcReadU8, seqPeekU8, seqReadLinear, seqSerializeLinear};
 ghost use Rattle.machine.specs.Step.{directStep};
 ghost use Rattle.sequencer_reads.specs.Reads.{readAt, readCall};
-use machine::ByteAnswer;
-use machine::DoneAnswer;
-use machine::PixelPlace;
-use machine::PlaneOffset;
-use machine::Refusal;
-use machine::Sequencer;
-use machine::Shape;
 use plane_masks::inner;
+use types::ByteAnswer;
+use types::DoneAnswer;
+use types::PixelPlace;
+use types::PlaneOffset;
+use types::Refusal;
+use types::Sequencer;
+use types::Shape;
 
 // Refusals 6, 1, 4, 3: of a call that names a plane and an offset.
 pub fn judge_plane(seq: Sequencer, shape: Shape, plane: usize, offset: PlaneOffset) -> DoneAnswer

@@ -3,13 +3,13 @@ use mathlib.Core.Path.{_≡_, ap₂}
 use contract.Lifetimes.{Lfts}
 use denote.Triple.Clauses.{AtExit}
 use borrow.Fn.Kinds.{Dens, endedOf}
-use Rattle.machine.specs.declared.answer.ByteAnswer.{ByteAnswer}
-use Rattle.machine.specs.declared.answer.ClockAnswer.{ClockAnswer}
-use Rattle.machine.specs.declared.answer.DoneAnswer.{DoneAnswer}
-use Rattle.machine.specs.declared.answer.FlagAnswer.{FlagAnswer}
-use Rattle.machine.specs.declared.answer.SequencerDone.{SequencerDone}
-use Rattle.machine.specs.declared.answer.SequencerFlag.{SequencerFlag}
-use Rattle.machine.specs.declared.sequencer.Sequencer.{Sequencer}
+use Rattle.types.specs.declared.answer.ByteAnswer.{ByteAnswer}
+use Rattle.types.specs.declared.answer.ClockAnswer.{ClockAnswer}
+use Rattle.types.specs.declared.answer.DoneAnswer.{DoneAnswer}
+use Rattle.types.specs.declared.answer.FlagAnswer.{FlagAnswer}
+use Rattle.types.specs.declared.answer.SequencerDone.{SequencerDone}
+use Rattle.types.specs.declared.answer.SequencerFlag.{SequencerFlag}
+use Rattle.types.specs.declared.sequencer.Sequencer.{Sequencer}
 use Rattle.machine.specs.Answers.{Outcome, outcome, doneSaid, flagSaid}
 use Rattle.machine.proofs.Injective.{answer-of, next-of, byte-injective, done-injective, flag-injective, clock-injective}
 use Rattle.sequencer_registers.proofs.registers.reset.Reads as reset

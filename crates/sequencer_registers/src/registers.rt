@@ -4,16 +4,16 @@ ghost use Rattle.machine.specs.Answers.{said, one, outcome, byteSaid, doneSaid,
 ghost use Rattle.machine.specs.Sequencer.{seqDataOf, withSeqData, divisorOf, clockOf, withMark};
 ghost use Rattle.machine.specs.Calls.{seqReset, seqClock, seqSetClockChangePending, seqPollClockChange, seqReadAddress, seqReadData, seqWriteAddress, seqWriteData};
 ghost use Rattle.machine.specs.Step.{sequencerStep};
-use machine::ByteAnswer;
-use machine::ClockAnswer;
-use machine::DoneAnswer;
-use machine::FlagAnswer;
-use machine::Refusal;
-use machine::Sequencer;
-use machine::SequencerDone;
-use machine::SequencerFlag;
-use machine::SequencerRegister;
 use record_judges::fits_seq;
+use types::ByteAnswer;
+use types::ClockAnswer;
+use types::DoneAnswer;
+use types::FlagAnswer;
+use types::Refusal;
+use types::Sequencer;
+use types::SequencerDone;
+use types::SequencerFlag;
+use types::SequencerRegister;
 
 // The start record, whatever stood there before.
 pub fn reset(seq: Sequencer) -> Sequencer

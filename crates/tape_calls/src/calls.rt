@@ -6,16 +6,16 @@ ghost use Rattle.machine.specs.Calls.{cpuRead, cpuPeek, cpuWrite, serialize};
 ghost use Rattle.machine.specs.Step.{state, cpu, step};
 ghost use Rattle.tape_machine.specs.Told.{toldSaid, handedOf};
 ghost use Rattle.tape_machine.specs.Performs.{performed};
-use machine::DoneAnswer;
-use machine::GraphicsController;
-use machine::GraphicsDone;
-use machine::PlaneOffset;
-use machine::Sequencer;
-use machine::SequencerDone;
 use tape_machine::Eight;
 use tape_machine::Handed;
 use tape_machine::Told;
 use tape_records::Command;
+use types::DoneAnswer;
+use types::GraphicsController;
+use types::GraphicsDone;
+use types::PlaneOffset;
+use types::Sequencer;
+use types::SequencerDone;
 
 // What was answered, and both records as they are left.
 pub struct Performed {

@@ -5,8 +5,9 @@ use mathlib.Core.List.{List, [], _∷_}
 use lib.ListN.{replicate}
 use Rattle.bits.specs.Bit.{bit, field, ofBits}
 use Rattle.machine.specs.Memory.{mem, sound}
-use Rattle.machine.specs.Graphics.{freshGc, selects, withAddress, keeps, withData, fitsGc, rotateCount, logicFunction, writeMode, readMode, oddEven, shiftMode, chained, memoryMap}
-use Rattle.machine.specs.Sequencer.{freshSeq, selectsSeq, withSeqAddress, seqKeeps, withSeqData, fitsSeq, seqOddEven, chainFour, inMask, storedAt}
+use Rattle.machine.specs.Graphics.{selects, withAddress, keeps, withData, fitsGc, rotateCount, logicFunction, writeMode, readMode, oddEven, shiftMode, chained, memoryMap}
+use Rattle.types.specs.Start.{freshGc, freshSeq}
+use Rattle.machine.specs.Sequencer.{selectsSeq, withSeqAddress, seqKeeps, withSeqData, fitsSeq, seqOddEven, chainFour, inMask, storedAt}
 use Rattle.machine.specs.Address.{inWindow, mapped, offset}
 use Rattle.machine.specs.DataPath.{dataBit, combined, masked, writtenBit, visits, selectedPlane}
 use Rattle.machine.specs.Deeds.{loaded, pixelOf, remade, storedByte, laid, stored, agrees, compared, latchesAfter, memoryAfter, valueOf as repliedValue}
@@ -19,8 +20,8 @@ use Rattle.tape_records.specs.declared.records.Operation.the-variants.{Was}
 use Rattle.tape_records.specs.declared.records.Record.{Record}
 use Rattle.tape_records.specs.declared.records.Record.the-variants.{Whole, Broken}
 use Rattle.tape_records.specs.Records.{arguments, greatestOf, judged, argumentOf, commandOf, next, thirdOf, secondOf, firstOf, started, recordOf}
-use Rattle.machine.specs.declared.answer.Refusal.the-variants.{Room}
-use Rattle.machine.specs.declared.answer.DoneAnswer.the-variants.{Refused}
+use Rattle.types.specs.declared.answer.Refusal.the-variants.{Room}
+use Rattle.types.specs.declared.answer.DoneAnswer.the-variants.{Refused}
 use Rattle.tape_machine.specs.Performs.{performed}
 use Rattle.tape_machine.specs.Text.{digitsOf, decimalOf, fieldOf, hexOf}
 use Rattle.tape_machine.specs.Lines.{nameOf, valueOf, lineOf}

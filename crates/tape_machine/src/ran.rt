@@ -1,7 +1,7 @@
 // What a whole run answers.
-use machine::DoneAnswer;
-use machine::GraphicsController;
-use machine::Sequencer;
+use types::DoneAnswer;
+use types::GraphicsController;
+use types::Sequencer;
 
 // Whether the lines had room, how many bytes were written, and both records as they are left.
 pub struct Ran {

@@ -1,6 +1,6 @@
 // The program of document 01 as two functions, so that each program that tries a tape runs the very same ones.
-use machine::GraphicsController;
-use machine::Sequencer;
+use types::GraphicsController;
+use types::Sequencer;
 
 // Reads the first 16,384 bytes of standard input as a tape, and plays it.
 pub fn play() {

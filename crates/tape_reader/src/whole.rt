@@ -6,10 +6,6 @@ ghost use Rattle.machine.specs.Memory.{lent, before, after};
 ghost use Rattle.machine.specs.Step.{state};
 ghost use Rattle.tape_machine.specs.Told.{toldSaid};
 ghost use Rattle.tape_machine.specs.Run.{operationNumber, faultSaid, recordsOf, linesOf, outcome, endedOf, playedOf, runOf};
-use machine::DoneAnswer;
-use machine::GraphicsController;
-use machine::Refusal;
-use machine::Sequencer;
 use tape_calls::perform;
 use tape_lines::inner::line;
 use tape_machine::Handed;
@@ -20,6 +16,10 @@ use tape_records::Fault;
 use tape_records::Operation;
 use tape_records::Record;
 use tape_records::decode;
+use types::DoneAnswer;
+use types::GraphicsController;
+use types::Refusal;
+use types::Sequencer;
 
 // The bytes of the longest line.
 pub const LONGEST: usize = 84;

@@ -2,12 +2,12 @@
 ghost use mathlib.Core.Path.{_≡_};
 ghost use Rattle.machine.specs.Answers.{refusalNumber, one, said, byteSaid, storeSaid, doneSaid};
 ghost use Rattle.tape_machine.specs.Told.{toldSaid};
-use machine::ByteAnswer;
-use machine::DoneAnswer;
-use machine::Refusal;
-use machine::StoreAnswer;
 use tape_machine::Handed;
 use tape_machine::Told;
+use types::ByteAnswer;
+use types::DoneAnswer;
+use types::Refusal;
+use types::StoreAnswer;
 
 // A byte, with answer 0.
 fn byte(value: u8) -> Told

@@ -12,10 +12,10 @@ use borrow.Author.Tests.{eqb-true}
 use Rattle.bits.specs.Bit.{bit, ofBits, isOne, bitOf, pick}
 use Rattle.bits.proofs.Laws.{test-lt, bit-of, of-lt, is-of}
 use Rattle.bits.proofs.Bitwise.{bit-and}
-use Rattle.machine.specs.declared.graphics.GraphicsRegisters.{GraphicsRegisters}
-use Rattle.machine.specs.declared.graphics.WriteMode.{WriteMode}
-use Rattle.machine.specs.declared.graphics.WriteMode.the-variants.{Mode0, Mode1, Mode2, Invalid}
-use Rattle.machine.specs.declared.sequencer.Sequencer.{Sequencer}
+use Rattle.types.specs.declared.graphics.GraphicsRegisters.{GraphicsRegisters}
+use Rattle.types.specs.declared.graphics.WriteMode.{WriteMode}
+use Rattle.types.specs.declared.graphics.WriteMode.the-variants.{Mode0, Mode1, Mode2, Invalid}
+use Rattle.types.specs.declared.sequencer.Sequencer.{Sequencer}
 use Rattle.machine.specs.Memory.{Memory, plane}
 use Rattle.machine.specs.Sequencer.{storedAt}
 use Rattle.machine.specs.Deeds.{latch, any, laid, remade, stored, storedByte, memoryAfter}

@@ -12,11 +12,11 @@ ghost use Rattle.machine.specs.Address.{a0 as bit0};
 ghost use Rattle.machine.specs.Deeds.{latch, laid, memoryAfter};
 ghost use Rattle.machine.specs.Calls.{writeDeed};
 ghost use Rattle.visits.specs.Writes.{storesTo};
-use machine::GraphicsController;
-use machine::GraphicsRegisters;
-use machine::Sequencer;
-use machine::WriteMode;
 use planes::PlaneStore;
+use types::GraphicsController;
+use types::GraphicsRegisters;
+use types::Sequencer;
+use types::WriteMode;
 use write_bytes::written;
 use write_path::visited;
 

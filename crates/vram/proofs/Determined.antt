@@ -5,8 +5,8 @@ use contract.Lifetimes.{Lfts}
 use denote.Ref.{now}
 use denote.Triple.Clauses.{AtExit}
 use borrow.Fn.Kinds.{Dens, endedOf}
-use Rattle.machine.specs.declared.answer.StoreAnswer.{StoreAnswer}
-use Rattle.machine.specs.declared.answer.DoneAnswer.{DoneAnswer}
+use Rattle.types.specs.declared.answer.StoreAnswer.{StoreAnswer}
+use Rattle.types.specs.declared.answer.DoneAnswer.{DoneAnswer}
 use Rattle.machine.specs.Memory.{Memory, lent}
 use Rattle.machine.proofs.Injective.{answer-of, next-of, store-injective, done-injective}
 use Rattle.vram.proofs.write_u8.Reads as write-u8

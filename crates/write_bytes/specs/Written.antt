@@ -2,8 +2,8 @@
 use Prim.Native.Nat.{ℕ}
 use mathlib.Core.List.{List, [], _∷_}
 use Rattle.bits.specs.Bit.{bit, byteOf}
-use Rattle.machine.specs.declared.graphics.GraphicsRegisters.{GraphicsRegisters}
-use Rattle.machine.specs.declared.graphics.WriteMode.{WriteMode}
+use Rattle.types.specs.declared.graphics.GraphicsRegisters.{GraphicsRegisters}
+use Rattle.types.specs.declared.graphics.WriteMode.{WriteMode}
 use Rattle.machine.specs.DataPath.{writtenBit}
 use Rattle.machine.specs.Deeds.{latch}
 

@@ -7,8 +7,8 @@ ghost use Rattle.machine.specs.DataPath.{rotated, masked, writtenBit};
 ghost use Rattle.write_bytes.specs.Written.{written, four};
 use bits::inner::spread;
 use logic_step::logic_step;
-use machine::GraphicsRegisters;
-use machine::WriteMode;
+use types::GraphicsRegisters;
+use types::WriteMode;
 
 // Eight bits turned right; a turn by 0 shifts by 0 twice.
 fn rotate_right_u8(byte: u8, count: u8) -> u8

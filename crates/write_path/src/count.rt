@@ -1,8 +1,8 @@
 // The four counters of accepted writes.
 ghost use mathlib.Core.Path.{_≡_};
 ghost use Rattle.machine.specs.Calls.{counted, writeCounter};
-use machine::GraphicsControllerStats;
-use machine::WriteMode;
+use types::GraphicsControllerStats;
+use types::WriteMode;
 
 pub fn counted_write(mode: WriteMode, stats: GraphicsControllerStats) -> GraphicsControllerStats
     ensures { λ r. ⌜ r ≡ counted (writeCounter mode) stats ⌝ }

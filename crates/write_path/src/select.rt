@@ -2,8 +2,8 @@
 ghost use mathlib.Core.Path.{_≡_};
 ghost use Rattle.bits.specs.Bit.{ofBits, bitOf};
 ghost use Rattle.machine.specs.DataPath.{visits};
-use machine::GraphicsRegisters;
-use machine::OddEvenModeComplement;
+use types::GraphicsRegisters;
+use types::OddEvenModeComplement;
 
 // As four bits: all, or a0 and 2 + a0.
 pub fn visited(registers: GraphicsRegisters, address: usize) -> u8

@@ -2,8 +2,8 @@
 use mathlib.Core.Path.{_≡_}
 use borrow.Author.Needs.{needs}
 use Rattle.bits.specs.Bit.{bit, byteOf}
-use Rattle.machine.specs.declared.graphics.LogicFunction.the-variants.{Unmodified, And, Or, Xor}
-use Rattle.machine.specs.declared.graphics.LogicFunction.{LogicFunction}
+use Rattle.types.specs.declared.graphics.LogicFunction.the-variants.{Unmodified, And, Or, Xor}
+use Rattle.types.specs.declared.graphics.LogicFunction.{LogicFunction}
 use Rattle.logic_step.proofs.Step.{whole, stepped, whole-is}
 use Rattle.logic_step.proofs.logic_step.Statement.{statement}
 use Rattle.logic_step.proofs.logic_step.Tie as tie

@@ -4,7 +4,7 @@ use mathlib.Core.List.{[], _∷_}
 use mathlib.Core.Logic.{inl, inr}
 use mathlib.Core.Path.{ap, _∙_}
 use borrow.Author.Needs.{needs}
-use Rattle.machine.specs.declared.graphics.WriteMode.{WriteMode}
+use Rattle.types.specs.declared.graphics.WriteMode.{WriteMode}
 use Rattle.machine.specs.Calls.{writeDeed}
 use Rattle.machine.specs.Deeds.{remade, memoryAfter}
 use Rattle.machine.specs.Memory.{mem}

@@ -1,0 +1,38 @@
+// The types of the port: places, answers, the two records with their start states. What every call does to them is said in `machine`.
+mod answer;
+mod graphics;
+mod place;
+mod sequencer;
+mod shape;
+
+pub use answer::ByteAnswer;
+pub use answer::ClockAnswer;
+pub use answer::CpuByte;
+pub use answer::CpuStore;
+pub use answer::DoneAnswer;
+pub use answer::FlagAnswer;
+pub use answer::GraphicsDone;
+pub use answer::MapAnswer;
+pub use answer::MappedAnswer;
+pub use answer::OddEvenAnswer;
+pub use answer::Refusal;
+pub use answer::SequencerDone;
+pub use answer::SequencerFlag;
+pub use answer::ShiftAnswer;
+pub use answer::StoreAnswer;
+pub use graphics::GraphicsController;
+pub use graphics::GraphicsControllerStats;
+pub use graphics::GraphicsRegister;
+pub use graphics::GraphicsRegisters;
+pub use graphics::LogicFunction;
+pub use graphics::MemoryMap;
+pub use graphics::OddEvenModeComplement;
+pub use graphics::ReadMode;
+pub use graphics::ShiftMode;
+pub use graphics::WriteMode;
+pub use place::PixelPlace;
+pub use place::PlaneOffset;
+pub use sequencer::OddEvenMode;
+pub use sequencer::Sequencer;
+pub use sequencer::SequencerRegister;
+pub use shape::Shape;
