@@ -1,4 +1,4 @@
--- The graphics controller's registers: what each keeps of a byte, its fields, the start.
+-- The graphics controller's registers: what each keeps of a byte, its fields.
 use Prim.Native.Nat.{ℕ, _%_}
 use mathlib.Core.Bool.{Bool, true, false, _&&_}
 use mathlib.Core.List.{List, [], _∷_}

@@ -1,4 +1,4 @@
--- The sequencer's registers: what each keeps of a byte, the clock, the plane masks, the start.
+-- The sequencer's registers: what each keeps of a byte, the clock, the plane masks.
 use Prim.Native.Nat.{ℕ, _+_, _-_, _*_, _/_, _%_, _^_}
 use mathlib.Core.Bool.{Bool, true, false, _&&_}
 use mathlib.Core.List.{[], _∷_}

@@ -1,7 +1,7 @@
 // The sequencer's ports, its clock and the pending mark. Each call judges the whole record first, `reset` excepted.
 ghost use mathlib.Core.Path.{_≡_};
 ghost use Rattle.machine.specs.Answers.{said, one, outcome, byteSaid, doneSaid, flagSaid, clockSaid};
-ghost use Rattle.machine.specs.Sequencer.{seqDataOf, withSeqData, divisorOf, clockOf, withMark};
+ghost use Rattle.machine.specs.Sequencer.{seqDataOf, withSeqData, divisorOf, clockOf};
 ghost use Rattle.machine.specs.Calls.{seqReset, seqClock, seqSetClockChangePending, seqPollClockChange, seqReadAddress, seqReadData, seqWriteAddress, seqWriteData};
 ghost use Rattle.machine.specs.Step.{sequencerStep};
 use record_judges::fits_seq;

@@ -1,9 +1,7 @@
--- The start states, of which `new` hands out each.
+-- The start states, which the two `new` hand out.
 use mathlib.Core.List.{[], _∷_}
 use mathlib.Core.Bool.{false}
 use Rattle.types.specs.declared.graphics.GraphicsRegister.the-variants.{SetReset}
-use Rattle.types.specs.declared.graphics.GraphicsRegisters.{GraphicsRegisters}
-use Rattle.types.specs.declared.graphics.GraphicsControllerStats.{GraphicsControllerStats}
 use Rattle.types.specs.declared.graphics.GraphicsController.{GraphicsController}
 use Rattle.types.specs.declared.sequencer.SequencerRegister.the-variants.{Reset}
 use Rattle.types.specs.declared.sequencer.Sequencer.{Sequencer}

@@ -1,4 +1,4 @@
-// What the calls answer. specs/Answers.antt gives each answer's number and value.
+// What the calls answer. machine's specs/Answers.antt gives each answer's number and value.
 use crate::graphics::GraphicsController;
 use crate::graphics::MemoryMap;
 use crate::graphics::OddEvenModeComplement;

@@ -2,7 +2,8 @@
 use Prim.Native.Nat.{ℕ}
 use borrow.Author.Needs.{needs}
 use lib.ListN.{length-replicate}
-use mathlib.Core.Path.{sym, _∙_}
+use mathlib.Core.Path.{sym}
+use Rattle.tape_program.proofs.Lengths.{of-length}
 use Rattle.tape_program.proofs.play_tape.Statement.{statement}
 use Rattle.tape_program.proofs.play_tape.Tie as tie
 
@@ -13,19 +14,19 @@ new-requires-2 : tie.Need-new-requires-2
 new-requires-2 c κs = search needs
 
 slice-aggregate-run : tie.Need-slice-aggregate-run
-slice-aggregate-run c = search needs
+slice-aggregate-run c = sym (length-replicate {0} {A = ℕ} 4096 0)
 
 slice-aggregate-run-2 : tie.Need-slice-aggregate-run-2
-slice-aggregate-run-2 c = search needs
+slice-aggregate-run-2 c = sym (length-replicate {0} {A = ℕ} 4096 0)
 
 slice-aggregate-run-3 : tie.Need-slice-aggregate-run-3
-slice-aggregate-run-3 c = search needs
+slice-aggregate-run-3 c = sym (length-replicate {0} {A = ℕ} 4096 0)
 
 slice-aggregate-run-4 : tie.Need-slice-aggregate-run-4
-slice-aggregate-run-4 c = search needs
+slice-aggregate-run-4 c = sym (length-replicate {0} {A = ℕ} 4096 0)
 
 slice-aggregate-run-5 : tie.Need-slice-aggregate-run-5
-slice-aggregate-run-5 c = search needs
+slice-aggregate-run-5 c = sym (length-replicate {0} {A = ℕ} 32768 0)
 
 slice-aggregate-run-6 : tie.Need-slice-aggregate-run-6
 slice-aggregate-run-6 c = sym (length-replicate {0} {A = ℕ} 1376256 0)
@@ -34,7 +35,7 @@ run-requires : tie.Need-run-requires
 run-requires c κs = search needs
 
 slice-aggregate-emit : tie.Need-slice-aggregate-emit
-slice-aggregate-emit c = sym (c .before .before .before .before .before .before .before .run .kept .1 .1 .1 .1 .1 .1 .1 .1 .0 ∙ length-replicate {0} {A = ℕ} 1376256 0)
+slice-aggregate-emit c = of-length 1376256 (c .before .before .before .before .before .before .before .run .kept .1 .1 .1 .1 .1 .1 .1 .1 .0)
 
 emit-requires : tie.Need-emit-requires
 emit-requires c κs = search needs
