@@ -2,15 +2,13 @@
 ghost use Prim.Native.Nat.{_≤_};
 use crate::settings;
 use list_calls::graphics_call;
-use list_calls::graphics_call::GraphicsLeft;
 use list_calls::memory_call;
 use list_calls::sequencer_call;
-use list_calls::store_call;
-use list_lines::digest;
 use list_lines::line::Call;
 use list_lines::line::Line;
 use list_lines::print;
 use list_lines::said;
+use list_lines::said::GraphicsLeft;
 use list_lines::said::Said;
 use types::GraphicsController;
 use types::Sequencer;
@@ -123,12 +121,12 @@ fn made(
     p3: &mut [u8],
     picture: &mut [u8],
 ) -> Session {
-    if !store_call::is_store(call.operation) {
+    if !list_stores::is_store(call.operation) {
         return asked(session, call, p0, p1, p2, p3, picture);
     }
     let gc = session.gc;
     let seq = session.seq;
-    let left = store_call::stores(call, gc, seq, p0, p1, p2, p3, picture);
+    let left = list_stores::stores(call, gc, seq, p0, p1, p2, p3, picture);
     with_controller(session, call.operation, left)
 }
 
@@ -207,7 +205,7 @@ fn whole(session: Session, p0: &[u8], p1: &[u8], p2: &[u8], p3: &[u8], picture: 
     let seq = session.seq;
     let mut at = print::digits(&mut out, 0, session.calls);
     at = print::number(&mut out, at, 0);
-    at = digest::text(gc, seq, p0, p1, p2, p3, picture, &mut out, at);
+    at = list_digest::text(gc, seq, p0, p1, p2, p3, picture, &mut out, at);
     print::end(&mut out, at);
 }
 

@@ -2,14 +2,10 @@
 use list_lines::line::Call;
 use list_lines::line::byte;
 use list_lines::said;
+use list_lines::said::GraphicsLeft;
 use list_lines::said::Said;
 use types::GraphicsController;
 use types::GraphicsDone;
-
-pub struct GraphicsLeft {
-    pub gc: GraphicsController,
-    pub said: Said,
-}
 
 pub fn ports(call: Call, gc: GraphicsController) -> GraphicsLeft {
     let operation = call.operation;

@@ -1,9 +1,9 @@
 // Calls that read memory, of each layer.
-use crate::graphics_call::GraphicsLeft;
 use graphics_controller::cpu_peek_u8;
 use graphics_controller::cpu_read_u8;
 use list_lines::line::Call;
 use list_lines::said;
+use list_lines::said::GraphicsLeft;
 use list_lines::said::Said;
 use types::GraphicsController;
 use types::PixelPlace;

@@ -6,6 +6,7 @@ use types::ByteAnswer;
 use types::ClockAnswer;
 use types::DoneAnswer;
 use types::FlagAnswer;
+use types::GraphicsController;
 use types::MapAnswer;
 use types::MappedAnswer;
 use types::MemoryMap;
@@ -23,6 +24,12 @@ pub enum Said {
     Mapped(u8, u64, u64),
     // eight pixels, four bits each, the first one highest
     Shown(u8, u64),
+}
+
+// The controller's record as a call leaves it, and what the call said.
+pub struct GraphicsLeft {
+    pub gc: GraphicsController,
+    pub said: Said,
 }
 
 pub fn given(value: u64) -> Said {

@@ -1,8 +1,8 @@
-// Calls that store, of each layer.
-use crate::graphics_call::GraphicsLeft;
+// The calls of a list that store, of each layer.
 use graphics_controller::cpu_write_u8;
 use list_lines::line::Call;
 use list_lines::line::byte;
+use list_lines::said::GraphicsLeft;
 use list_lines::said::Said;
 use list_lines::said::done;
 use list_lines::said::store;

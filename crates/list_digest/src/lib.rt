@@ -1,7 +1,7 @@
 // The whole state in a line: both records in full, a checksum of each plane and of the picture.
-use crate::print;
-use crate::print::numbers;
-use crate::said::bit;
+use list_lines::print;
+use list_lines::print::numbers;
+use list_lines::said::bit;
 use std::num::wrapping_add_u32;
 use types::GraphicsController;
 use types::GraphicsControllerStats;

@@ -2,8 +2,8 @@
 use Prim.Native.Nat.{_≤_, _-_}
 use lib.ListN.{length}
 use borrow.Author.Needs.{needs}
-use Rattle.list_lines.proofs.digest.checksum.Statement.{statement}
-use Rattle.list_lines.proofs.digest.checksum.Tie as tie
+use Rattle.list_digest.proofs.checksum.Statement.{statement}
+use Rattle.list_digest.proofs.checksum.Tie as tie
 
 abbrev Inv-loop : tie.InvT-loop
 Inv-loop bytes out at first₀ second₀ i₀ first second i = i ≤ length bytes
