@@ -167,6 +167,11 @@ module _ (o : ℕ) (w : ℕ → Bool) (b : ℕ → ℕ) (m : Memory) where
   laid-skip (suc (suc (suc zero))) h e = rw e
   laid-skip (suc (suc (suc (suc k)))) h e = absurd (omega arith)
 
+-- a store that the mask stopped at every plane remakes no pixel
+pub stored-nowhere : (o : ℕ) (b : ℕ → ℕ) (m : Memory) → stored o (λ _. false) b m ≡ m
+unfolding stored
+stored-nowhere o b m = refl
+
 -- a store of plane p alone, of those that a test names: where it names p, the byte and then its pixels; else nothing
 module _ (o p : ℕ) (w : ℕ → Bool) (b : ℕ → ℕ) (m : Memory) (h : p ≤ 3) where
   pub stored-one : w p ≡ true → remade o (laid o (λ q. eqb q p) b m) ≡ stored o (λ q. eqb q p && w q) b m
