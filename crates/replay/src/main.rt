@@ -1,4 +1,4 @@
-// Any list of calls: what the differential runs compare with the Rust, whose lines on the list here are in stdout.
+// Any list of calls. The list here is that of the cases (oracle/make-cases); the differential runs hand it others, and compare with the Rust.
 fn main() {
     call_lists::run();
 }
