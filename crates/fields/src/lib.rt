@@ -1,4 +1,4 @@
-// What the code reads off the machine's types: the fields of kept bytes, and a refusal's number.
+// What the code reads off the types: the fields of kept bytes, and a refusal's number.
 pub mod gc;
 mod refusal;
 pub mod seq;

@@ -1,4 +1,4 @@
-// The sequencer without its memory: its ports and its clock. The record stands in `machine`.
+// The sequencer without its memory: its ports and its clock. The record stands in `types`.
 mod registers;
 
 pub use registers::clock;
