@@ -117,7 +117,7 @@ fn with_address(registers: GraphicsRegisters, byte: u8) -> GraphicsRegisters
 }
 
 // The answer of a port that took its byte: the registers as they are now, counters and latches as they were.
-fn written(gc: GraphicsController, registers: GraphicsRegisters) -> GraphicsDone
+fn port_done(gc: GraphicsController, registers: GraphicsRegisters) -> GraphicsDone
     ensures { λ r. ⌜ outcome (doneSaid (r .answer)) (r .gc) ≡ outcome (said 0 (one 0)) (gcOf registers (gc .stats) (gc .latches)) ⌝ }
 {
     let stats = gc.stats;
@@ -143,7 +143,7 @@ pub fn write_address(gc: GraphicsController, byte: u8) -> GraphicsDone
             gc,
         };
     }
-    written(gc, with_address(registers, byte))
+    port_done(gc, with_address(registers, byte))
 }
 
 fn data_of(registers: GraphicsRegisters) -> u8
@@ -202,5 +202,5 @@ pub fn write_data(gc: GraphicsController, byte: u8) -> GraphicsDone
             gc,
         };
     }
-    written(gc, with_data(registers, byte))
+    port_done(gc, with_data(registers, byte))
 }

@@ -20,7 +20,7 @@ use Rattle.planes.specs.Stores.{combines, storeBit}
 use Rattle.planes.proofs.Stores.{store-one}
 use Rattle.planes.specs.declared.kind.PlaneStore.{PlaneStore}
 use Rattle.planes.specs.declared.kind.PlaneStore.the-variants.{Set, And, Or}
-use Rattle.sequencer.specs.Direct.{storeCall}
+use Rattle.sequencer.specs.Direct.{directStoreCall}
 use Rattle.sequencer_reads.proofs.Laws.{Judged}
 
 -- a direct store's memory, whatever its kind: through the mask, or stopped by it
@@ -35,14 +35,14 @@ module _ (k : PlaneStore) (s : Sequencer) (m : Memory) (p o : ℕ) (a : Bool) (x
 
 -- the three direct stores, by what their judge answered
 module _ (s : Sequencer) (m : Memory) (p o : ℕ) (a : Bool) (x : ℕ) {d : DoneAnswer} (j : Judged s m p o d) where
-  pub store-refused : (k : PlaneStore) (r : Refusal) → d ≡ Refused r → outcome (said (refusalNumber r) (one 0)) m ≡ directStep s m (storeCall k p o a x)
+  pub store-refused : (k : PlaneStore) (r : Refusal) → d ≡ Refused r → outcome (said (refusalNumber r) (one 0)) m ≡ directStep s m (directStoreCall k p o a x)
   unfolding directStep directPlan valueOf
   store-refused Set r e = perform-refused _ m _ _ (refusal-some r) (as-told e j) refl
   store-refused And r e = perform-refused _ m _ _ (refusal-some r) (as-told e j) refl
   store-refused Or r e = perform-refused _ m _ _ (refusal-some r) (as-told e j) refl
 
   pub store-done : (k : PlaneStore) (m′ : Memory) → d ≡ Done → m′ ≡ memoryAfter (storeOne (storeBit k) p (storedAt s o) (inMask s o a) x) [] m
-      → outcome (said 0 (one 0)) m′ ≡ directStep s m (storeCall k p o a x)
+      → outcome (said 0 (one 0)) m′ ≡ directStep s m (directStoreCall k p o a x)
   unfolding directStep directPlan valueOf
   store-done Set m′ e g = perform-done _ m m′ _ (as-told e j) g refl
   store-done And m′ e g = perform-done _ m m′ _ (as-told e j) g refl

@@ -6,7 +6,7 @@ use Rattle.planes.specs.declared.kind.PlaneStore.{PlaneStore}
 use Rattle.planes.specs.declared.kind.PlaneStore.the-variants.{Set, And, Or}
 
 -- the machine's store of that kind
-abbrev pub storeCall : PlaneStore → ℕ → ℕ → Bool → ℕ → DirectCall
-storeCall Set = seqPlaneSet
-storeCall And = seqPlaneAnd
-storeCall Or = seqPlaneOr
+abbrev pub directStoreCall : PlaneStore → ℕ → ℕ → Bool → ℕ → DirectCall
+directStoreCall Set = seqPlaneSet
+directStoreCall And = seqPlaneAnd
+directStoreCall Or = seqPlaneOr

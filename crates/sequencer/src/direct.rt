@@ -11,7 +11,7 @@ ghost use Rattle.machine.specs.Sequencer.{fitsSeq, inMask, storedAt};
 ghost use Rattle.machine.specs.Calls.{storeOne, seqPlaneSet, seqPlaneAnd, seqPlaneOr};
 ghost use Rattle.machine.specs.Step.{directStep};
 ghost use Rattle.planes.specs.Stores.{storeBit};
-ghost use Rattle.sequencer.specs.Direct.{storeCall};
+ghost use Rattle.sequencer.specs.Direct.{directStoreCall};
 use plane_masks::inner;
 use planes::PlaneStore;
 use types::DoneAnswer;
@@ -58,7 +58,7 @@ fn plane_store(
     kind: PlaneStore,
     byte: u8,
 ) -> StoreAnswer
-    ensures { λ r. ⌜ outcome (storeSaid r) (after p0 p1 p2 p3 picture) ≡ directStep seq (before p0 p1 p2 p3 picture) (storeCall kind plane (offset .0) a0 byte) ⌝ }
+    ensures { λ r. ⌜ outcome (storeSaid r) (after p0 p1 p2 p3 picture) ≡ directStep seq (before p0 p1 p2 p3 picture) (directStoreCall kind plane (offset .0) a0 byte) ⌝ }
 {
     let shape = Shape {
         p0: p0.len(),
@@ -67,7 +67,7 @@ fn plane_store(
         p3: p3.len(),
         picture: picture.len(),
     };
-    match sequencer_reads::judge_plane(seq, shape, plane, offset) {
+    match sequencer_reads::judge_direct(seq, shape, plane, offset) {
         DoneAnswer::Refused(x) => StoreAnswer::Refused(x),
         DoneAnswer::Done => {
             let at = offset.0;

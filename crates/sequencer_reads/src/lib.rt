@@ -16,7 +16,7 @@ use types::Sequencer;
 use types::Shape;
 
 // Refusals 6, 1, 4, 3: of a call that names a plane and an offset.
-pub fn judge_plane(seq: Sequencer, shape: Shape, plane: usize, offset: PlaneOffset) -> DoneAnswer
+pub fn judge_direct(seq: Sequencer, shape: Shape, plane: usize, offset: PlaneOffset) -> DoneAnswer
     ensures { λ r. ⌜ doneSaid r .number ≡ refuse (fitsSeq seq) 6 (planeNumber shape plane (offset .0)) ⌝ }
 {
     if !record_judges::fits_seq(seq) {
@@ -62,7 +62,7 @@ fn plane_read(
         p3: p3.len(),
         picture: picture.len(),
     };
-    match judge_plane(seq, shape, plane, offset) {
+    match judge_direct(seq, shape, plane, offset) {
         DoneAnswer::Refused(x) => ByteAnswer::Refused(x),
         DoneAnswer::Done => {
             let at = read_at(seq, offset.0, kind);

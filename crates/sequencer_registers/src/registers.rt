@@ -147,7 +147,7 @@ fn clocking(mode: u8) -> Clocks
 }
 
 // The record after a data byte went to the register that stands selected.
-fn written(mut seq: Sequencer, byte: u8) -> Sequencer
+fn with_seq_data(mut seq: Sequencer, byte: u8) -> Sequencer
     ensures { λ r. ⌜ r ≡ withSeqData byte seq ⌝ }
 {
     let data = byte & 0x3F;
@@ -188,6 +188,6 @@ pub fn write_data(seq: Sequencer, byte: u8) -> SequencerDone
     }
     SequencerDone {
         answer: DoneAnswer::Done,
-        seq: written(seq, byte),
+        seq: with_seq_data(seq, byte),
     }
 }

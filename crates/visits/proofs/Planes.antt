@@ -21,7 +21,7 @@ use Rattle.machine.specs.Sequencer.{storedAt}
 use Rattle.machine.specs.Deeds.{latch, any, laid, remade, stored, storedByte, memoryAfter}
 use Rattle.machine.specs.Calls.{writeDeed}
 use Rattle.machine.proofs.Laws.{below, laid-more, laid-skip}
-use Rattle.write_bytes.specs.Written.{written, four}
+use Rattle.write_bytes.specs.PlaneBytes.{planeBytes, four}
 use Rattle.visits.specs.Writes.{stores, storesTo}
 
 -- ---- four tests as four bits
@@ -130,24 +130,24 @@ module _ (w : WriteMode) (r : GraphicsRegisters) (s : Sequencer) (x o v : ℕ) (
 
   -- in modes 0, 1 and 2 the bytes are laid, and the pixels remade once
   stored-once : (w ≡ Invalid → ⊥) → any (stores r s x o) ≡ true
-      → remade (storedAt s o) (laid (storedAt s o) (stores r s x o) (written w r v l) m) ≡ memoryAfter (writeDeed w r s x o v) l m
-  unfolding memoryAfter writeDeed stored storedByte stores written
+      → remade (storedAt s o) (laid (storedAt s o) (stores r s x o) (planeBytes w r v l) m) ≡ memoryAfter (writeDeed w r s x o v) l m
+  unfolding memoryAfter writeDeed stored storedByte stores planeBytes
   stored-once n e = go w n
     where
-      go : (w : WriteMode) → (w ≡ Invalid → ⊥) → remade (storedAt s o) (laid (storedAt s o) (stores r s x o) (written w r v l) m) ≡ memoryAfter (writeDeed w r s x o v) l m
+      go : (w : WriteMode) → (w ≡ Invalid → ⊥) → remade (storedAt s o) (laid (storedAt s o) (stores r s x o) (planeBytes w r v l) m) ≡ memoryAfter (writeDeed w r s x o v) l m
       go Mode0 n = rw e
       go Mode1 n = rw e
       go Mode2 n = rw e
       go Invalid n = absurd (n refl)
 
   -- as the code stores them: by the bits of a mask, from an array of four
-  pub write-some : (q place : ℕ) (b : List ℕ) → (w ≡ Invalid → ⊥) → q ≡ storesTo r s x o → (q ≡ 0 → ⊥) → b ≡ four (written w r v l) → place ≡ storedAt s o
+  pub write-some : (q place : ℕ) (b : List ℕ) → (w ≡ Invalid → ⊥) → q ≡ storesTo r s x o → (q ≡ 0 → ⊥) → b ≡ four (planeBytes w r v l) → place ≡ storedAt s o
       → remade place (laid place (λ p. isOne (bit p q)) (latch b) m) ≡ memoryAfter (writeDeed w r s x o v) l m
   unfolding storesTo
   write-some q place b n eq nz eb ep =
       rw ep
       (ap (remade (storedAt s o))
-      (laid-alike (storedAt s o) (λ p. isOne (bit p q)) (stores r s x o) (latch b) (written w r v l) m
+      (laid-alike (storedAt s o) (λ p. isOne (bit p q)) (stores r s x o) (latch b) (planeBytes w r v l) m
       (λ p h. rw eq (test-at (stores r s x o) p h))
-      (λ p h t. rw eb (latch-four (written w r v l) p h)))
+      (λ p h t. rw eb (latch-four (planeBytes w r v l) p h)))
       ∙ stored-once n (some-passed (stores r s x o) (λ z. nz (eq ∙ z))))

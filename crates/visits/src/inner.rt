@@ -17,7 +17,7 @@ use types::GraphicsController;
 use types::GraphicsRegisters;
 use types::Sequencer;
 use types::WriteMode;
-use write_bytes::written;
+use write_bytes::plane_bytes;
 use write_path::visited;
 
 // The planes that are stored, as four bits: visited, and let through by the mask.
@@ -110,7 +110,7 @@ pub fn write_planes(
         return;
     }
     let latches = gc.latches;
-    let bytes = written(mode, registers, latches, byte);
+    let bytes = plane_bytes(mode, registers, latches, byte);
     let place = plane_masks::inner::stored_at(seq, at);
     visit(p0, p1, p2, p3, picture, planes, bytes, place);
     pixels::inner::remake(p0, p1, p2, p3, picture, place);

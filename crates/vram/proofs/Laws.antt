@@ -18,7 +18,7 @@ use Rattle.planes.specs.declared.kind.PlaneStore.the-variants.{Set, And, Or}
 use Rattle.planes.specs.Stores.{combines}
 use Rattle.planes.proofs.Stores.{store-one}
 use Rattle.vram_reads.proofs.Laws.{plane-asked}
-use Rattle.vram.specs.Stores.{storeCall}
+use Rattle.vram.specs.Stores.{vramStoreCall}
 
 -- ---- a call, by what its judge answered
 
@@ -28,14 +28,14 @@ offset-asked h o e = let a = offset-accepted h o (sym e) in (a .shaped, a .offse
 
 -- the stores by plane, by what their judge answered
 module _ (m : Memory) (p o x : ℕ) {d : DoneAnswer} (j : doneSaid d .number ≡ planeNumber (shape m) p o) where
-  pub store-refused : (k : PlaneStore) (r : Refusal) → d ≡ Refused r → outcome (said (refusalNumber r) (one 0)) m ≡ vramStep m (storeCall k p o x)
+  pub store-refused : (k : PlaneStore) (r : Refusal) → d ≡ Refused r → outcome (said (refusalNumber r) (one 0)) m ≡ vramStep m (vramStoreCall k p o x)
   unfolding vramStep vramPlan valueOf
   store-refused Set r e = perform-refused _ m _ _ (refusal-some r) (as-told e j) refl
   store-refused And r e = perform-refused _ m _ _ (refusal-some r) (as-told e j) refl
   store-refused Or r e = perform-refused _ m _ _ (refusal-some r) (as-told e j) refl
 
   pub store-done : (k : PlaneStore) (m′ : Memory) → d ≡ Done → x < 256 → m′ ≡ remade o (laid o (λ q. eqb q p) (λ q. combines k x (byte m q o)) m)
-      → outcome (said 0 (one 0)) m′ ≡ vramStep m (storeCall k p o x)
+      → outcome (said 0 (one 0)) m′ ≡ vramStep m (vramStoreCall k p o x)
   unfolding vramStep vramPlan valueOf
   store-done Set m′ e h g = perform-done _ m m′ _ (as-told e j) (g ∙ store-one Set p o x unmasked m (plane-asked (shape m) o p (as-told e j) .1 .1) refl h) refl
   store-done And m′ e h g = perform-done _ m m′ _ (as-told e j) (g ∙ store-one And p o x unmasked m (plane-asked (shape m) o p (as-told e j) .1 .1) refl h) refl

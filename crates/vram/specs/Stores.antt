@@ -5,7 +5,7 @@ use Rattle.planes.specs.declared.kind.PlaneStore.{PlaneStore}
 use Rattle.planes.specs.declared.kind.PlaneStore.the-variants.{Set, And, Or}
 
 -- the machine's store of that kind
-abbrev pub storeCall : PlaneStore → ℕ → ℕ → ℕ → VramCall
-storeCall Set = planeSet
-storeCall And = planeAnd
-storeCall Or = planeOr
+abbrev pub vramStoreCall : PlaneStore → ℕ → ℕ → ℕ → VramCall
+vramStoreCall Set = planeSet
+vramStoreCall And = planeAnd
+vramStoreCall Or = planeOr

@@ -5,7 +5,7 @@ ghost use Rattle.machine.specs.Memory.{before, after};
 ghost use Rattle.machine.specs.Answers.{outcome, storeSaid, doneSaid};
 ghost use Rattle.machine.specs.Calls.{writeU8, deplane as remakes, planeSet, planeAnd, planeOr};
 ghost use Rattle.machine.specs.Step.{vramStep};
-ghost use Rattle.vram.specs.Stores.{storeCall};
+ghost use Rattle.vram.specs.Stores.{vramStoreCall};
 use planes::PlaneStore;
 use types::DoneAnswer;
 use types::PlaneOffset;
@@ -73,7 +73,7 @@ fn plane_store(
     kind: PlaneStore,
     byte: u8,
 ) -> StoreAnswer
-    ensures { λ r. ⌜ outcome (storeSaid r) (after p0 p1 p2 p3 picture) ≡ vramStep (before p0 p1 p2 p3 picture) (storeCall kind plane (offset .0) byte) ⌝ }
+    ensures { λ r. ⌜ outcome (storeSaid r) (after p0 p1 p2 p3 picture) ≡ vramStep (before p0 p1 p2 p3 picture) (vramStoreCall kind plane (offset .0) byte) ⌝ }
 {
     let shape = Shape {
         p0: p0.len(),

@@ -4,7 +4,7 @@ ghost use Prim.Native.Nat.{_<_, _≤_};
 ghost use Rattle.bits.specs.Bit.{bit, byteOf, isOne, pick};
 ghost use Rattle.machine.specs.Graphics.{rotateCount};
 ghost use Rattle.machine.specs.DataPath.{rotated, masked, writtenBit};
-ghost use Rattle.write_bytes.specs.Written.{written, four};
+ghost use Rattle.write_bytes.specs.PlaneBytes.{planeBytes, four};
 use bits::inner::spread;
 use logic_step::logic_step;
 use types::GraphicsRegisters;
@@ -78,8 +78,8 @@ fn plane_byte(
 }
 
 // The four planes' bytes; the byte is rotated once.
-pub fn written(mode: WriteMode, registers: GraphicsRegisters, latches: [u8; 4], byte: u8) -> [u8; 4]
-    ensures { λ r. ⌜ r ≡ four (written mode registers byte latches) ⌝ }
+pub fn plane_bytes(mode: WriteMode, registers: GraphicsRegisters, latches: [u8; 4], byte: u8) -> [u8; 4]
+    ensures { λ r. ⌜ r ≡ four (planeBytes mode registers byte latches) ⌝ }
 {
     let turned = rotate_right_u8(byte, fields::gc::rotate_count(registers));
     let b0 = plane_byte(mode, registers, turned, byte, 0, latches[0]);

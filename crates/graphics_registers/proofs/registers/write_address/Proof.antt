@@ -1,4 +1,4 @@
--- `write_address` keeps the address and selects, or answers 6: from `fits`, `with_address` and `written`.
+-- `write_address` keeps the address and selects, or answers 6: from `fits`, `with_address` and `port_done`.
 use mathlib.Core.Path.{sym, _∙_}
 use borrow.Author.Tests.{not-true, not-false}
 use borrow.Author.Needs.{needs}
@@ -18,14 +18,14 @@ returns c =
 with-address-requires : tie.Need-with-address-requires
 with-address-requires c κs = search needs
 
-written-requires : tie.Need-written-requires
-written-requires c κs = search needs
+port-done-requires : tie.Need-port-done-requires
+port-done-requires c κs = search needs
 
 returns-2 : tie.Need-returns-2
 unfolding graphicsStep gcNumberOf gcValue gcNext
 returns-2 c =
-    c .written .ensures ∙ simp (sym (c .before .before .before .fits-gc .ensures) ∙ not-false _ (c .before .before .if1 .left), c .before .with-address .ensures)
+    c .port-done .ensures ∙ simp (sym (c .before .before .before .fits-gc .ensures) ∙ not-false _ (c .before .before .if1 .left), c .before .with-address .ensures)
 
 pub write-address-spec : {M : Type 1} → statement M
 write-address-spec =
-    tie.close (tie.spec fits-gc-requires returns with-address-requires written-requires returns-2)
+    tie.close (tie.spec fits-gc-requires returns with-address-requires port-done-requires returns-2)

@@ -1,4 +1,4 @@
--- `write_data` changes the selected register, or answers 6: from `fits`, `with_data` and `written`.
+-- `write_data` changes the selected register, or answers 6: from `fits`, `with_data` and `port_done`.
 use mathlib.Core.Path.{sym, _∙_}
 use borrow.Author.Tests.{not-true, not-false}
 use borrow.Author.Needs.{needs}
@@ -18,14 +18,14 @@ returns c =
 with-data-requires : tie.Need-with-data-requires
 with-data-requires c κs = search needs
 
-written-requires : tie.Need-written-requires
-written-requires c κs = search needs
+port-done-requires : tie.Need-port-done-requires
+port-done-requires c κs = search needs
 
 returns-2 : tie.Need-returns-2
 unfolding graphicsStep gcNumberOf gcValue gcNext
 returns-2 c =
-    c .written .ensures ∙ simp (sym (c .before .before .before .fits-gc .ensures) ∙ not-false _ (c .before .before .if1 .left), c .before .with-data .ensures)
+    c .port-done .ensures ∙ simp (sym (c .before .before .before .fits-gc .ensures) ∙ not-false _ (c .before .before .if1 .left), c .before .with-data .ensures)
 
 pub write-data-spec : {M : Type 1} → statement M
 write-data-spec =
-    tie.close (tie.spec fits-gc-requires returns with-data-requires written-requires returns-2)
+    tie.close (tie.spec fits-gc-requires returns with-data-requires port-done-requires returns-2)

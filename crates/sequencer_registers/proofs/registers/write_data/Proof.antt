@@ -1,4 +1,4 @@
--- `write_data` leaves what `written` makes, or 6 where the record does not fit.
+-- `write_data` leaves what `with_seq_data` makes, or 6 where the record does not fit.
 use mathlib.Core.Path.{sym, _∙_}
 use borrow.Author.Tests.{not-true, not-false}
 use borrow.Author.Needs.{needs}
@@ -14,12 +14,12 @@ returns : tie.Need-returns
 unfolding sequencerStep seqNumberOf seqValue
 returns c = simp (sym (c .before .fits-seq .ensures) ∙ not-true _ (c .if1 .taken))
 
-written-requires : tie.Need-written-requires
-written-requires c κs = search needs
+with-seq-data-requires : tie.Need-with-seq-data-requires
+with-seq-data-requires c κs = search needs
 
 returns-2 : tie.Need-returns-2
 unfolding sequencerStep seqNumberOf seqValue seqNext
-returns-2 c = simp (sym (c .before .before .fits-seq .ensures) ∙ not-false _ (c .before .if1 .left), c .written .ensures)
+returns-2 c = simp (sym (c .before .before .fits-seq .ensures) ∙ not-false _ (c .before .if1 .left), c .with-seq-data .ensures)
 
 pub write-data-spec : {M : Type 1} → statement M
-write-data-spec = tie.close (tie.spec fits-seq-requires returns written-requires returns-2)
+write-data-spec = tie.close (tie.spec fits-seq-requires returns with-seq-data-requires returns-2)

@@ -43,8 +43,8 @@ returns-2 c =
     write-none (c .before .before .before .write-mode .result) r (a .seq) (a .address) (a .at) (a .byte) (a .gc .latches) (mem (a .p0 .now) (a .p1 .now) (a .p2 .now) (a .p3 .now) (a .picture .now)) _ (c .before .stored-planes .ensures) (c .if1 .taken)
     ∙ ap (λ (w : WriteMode). memoryAfter (writeDeed w r (a .seq) (a .address) (a .at) (a .byte)) (a .gc .latches) (mem (a .p0 .now) (a .p1 .now) (a .p2 .now) (a .p3 .now) (a .picture .now))) (c .before .before .before .write-mode .ensures)
 
-written-requires : tie.Need-written-requires
-written-requires c κs = search needs
+plane-bytes-requires : tie.Need-plane-bytes-requires
+plane-bytes-requires c κs = search needs
 
 stored-at-requires : tie.Need-stored-at-requires
 stored-at-requires c κs = search needs
@@ -81,7 +81,7 @@ returns-3 c =
     let a = c .before .before .before .before .before .before .before .before .before .before .before .before .before .before .before .before .before .before .before .before .before .before .before .before .before .before .before .before .before .before .before .before .before .before .before .args in
     let r = a .gc .registers in
     c .before .before .remake .ensures ∙ ap (remade (c .before .before .before .before .before .before .before .before .before .before .before .before .before .before .before .before .before .before .before .before .before .before .stored-at .result)) (c .before .before .before .before .before .before .before .before .before .before .before .before .before .before .before .before .visit .ensures)
-    ∙ write-some (c .before .before .before .before .before .before .before .before .before .before .before .before .before .before .before .before .before .before .before .before .before .before .before .before .before .before .before .before .write-mode .result) r (a .seq) (a .address) (a .at) (a .byte) (a .gc .latches) (mem (a .p0 .now) (a .p1 .now) (a .p2 .now) (a .p3 .now) (a .picture .now)) _ _ _ (λ e. not-3 (rw e at (c .before .before .before .before .before .before .before .before .before .before .before .before .before .before .before .before .before .before .before .before .before .before .before .before .before .before .before .match .keys2))) (c .before .before .before .before .before .before .before .before .before .before .before .before .before .before .before .before .before .before .before .before .before .before .before .before .before .before .stored-planes .ensures) (c .before .before .before .before .before .before .before .before .before .before .before .before .before .before .before .before .before .before .before .before .before .before .before .before .before .if1 .left) (c .before .before .before .before .before .before .before .before .before .before .before .before .before .before .before .before .before .before .before .before .before .before .before .written .ensures) (c .before .before .before .before .before .before .before .before .before .before .before .before .before .before .before .before .before .before .before .before .before .before .stored-at .ensures)
+    ∙ write-some (c .before .before .before .before .before .before .before .before .before .before .before .before .before .before .before .before .before .before .before .before .before .before .before .before .before .before .before .before .write-mode .result) r (a .seq) (a .address) (a .at) (a .byte) (a .gc .latches) (mem (a .p0 .now) (a .p1 .now) (a .p2 .now) (a .p3 .now) (a .picture .now)) _ _ _ (λ e. not-3 (rw e at (c .before .before .before .before .before .before .before .before .before .before .before .before .before .before .before .before .before .before .before .before .before .before .before .before .before .before .before .match .keys2))) (c .before .before .before .before .before .before .before .before .before .before .before .before .before .before .before .before .before .before .before .before .before .before .before .before .before .before .stored-planes .ensures) (c .before .before .before .before .before .before .before .before .before .before .before .before .before .before .before .before .before .before .before .before .before .before .before .before .before .if1 .left) (c .before .before .before .before .before .before .before .before .before .before .before .before .before .before .before .before .before .before .before .before .before .before .before .plane-bytes .ensures) (c .before .before .before .before .before .before .before .before .before .before .before .before .before .before .before .before .before .before .before .before .before .before .stored-at .ensures)
     ∙ ap (λ (w : WriteMode). memoryAfter (writeDeed w r (a .seq) (a .address) (a .at) (a .byte)) (a .gc .latches) (mem (a .p0 .now) (a .p1 .now) (a .p2 .now) (a .p3 .now) (a .picture .now))) (c .before .before .before .before .before .before .before .before .before .before .before .before .before .before .before .before .before .before .before .before .before .before .before .before .before .before .before .before .write-mode .ensures)
 
 pub write-planes-spec : {M : Type 1} → statement M
@@ -93,7 +93,7 @@ write-planes-spec =
     returns
     stored-planes-requires
     returns-2
-    written-requires
+    plane-bytes-requires
     stored-at-requires
     visit-requires
     remake-requires

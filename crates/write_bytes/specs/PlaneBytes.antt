@@ -8,8 +8,8 @@ use Rattle.machine.specs.DataPath.{writtenBit}
 use Rattle.machine.specs.Deeds.{latch}
 
 -- the byte that a write of x puts into plane p
-unfoldable pub written : WriteMode → GraphicsRegisters → ℕ → List ℕ → ℕ → ℕ
-written w r x l p = byteOf (λ i. writtenBit w r x p i (bit i (latch l p)))
+unfoldable pub planeBytes : WriteMode → GraphicsRegisters → ℕ → List ℕ → ℕ → ℕ
+planeBytes w r x l p = byteOf (λ i. writtenBit w r x p i (bit i (latch l p)))
 
 -- one number for each plane
 abbrev pub four : (ℕ → ℕ) → List ℕ

@@ -1,12 +1,12 @@
--- `written` gives the machine's byte for each plane: from `plane_byte`, at the byte rotated once.
+-- `plane_bytes` gives the machine's byte for each plane: from `plane_byte`, at the byte rotated once.
 use native.Mathlib.Omega.{arith}
 use borrow.Author.Needs.{needs}
 use Rattle.bits.specs.Bit.{field}
 use Rattle.machine.specs.Graphics.{rotateCount}
-use Rattle.write_bytes.specs.Written.{written}
+use Rattle.write_bytes.specs.PlaneBytes.{planeBytes}
 use Rattle.write_bytes.proofs.Bytes.{turned-by, four-alike}
-use Rattle.write_bytes.proofs.written.Statement.{statement}
-use Rattle.write_bytes.proofs.written.Tie as tie
+use Rattle.write_bytes.proofs.plane_bytes.Statement.{statement}
+use Rattle.write_bytes.proofs.plane_bytes.Tie as tie
 
 rotate-count-requires : tie.Need-rotate-count-requires
 rotate-count-requires c κs = search needs
@@ -45,12 +45,12 @@ plane-byte-requires-4 c κs =
     (omega arith, turned-by (c .before .before .before .before .before .args .registers) (c .before .before .before .before .before .args .byte) _ _ (c .before .before .before .rotate-right-u8 .ensures) (c .before .before .before .before .rotate-count .ensures))
 
 returns : tie.Need-returns
-unfolding written
+unfolding planeBytes
 returns c =
     four-alike (c .before .before .before .plane-byte .ensures) (c .before .before .plane-byte2 .ensures) (c .before .plane-byte3 .ensures) (c .plane-byte4 .ensures)
 
-pub written-spec : {M : Type 1} → statement M
-written-spec =
+pub plane-bytes-spec : {M : Type 1} → statement M
+plane-bytes-spec =
     tie.close
     (tie.spec
     rotate-count-requires

@@ -1,9 +1,9 @@
--- `judge_plane` gives 6 where the record does not fit, else what vram's judge gives.
+-- `judge_direct` gives 6 where the record does not fit, else what vram's judge gives.
 use mathlib.Core.Path.{sym, _∙_}
 use borrow.Author.Tests.{not-true, not-false}
 use borrow.Author.Needs.{needs}
-use Rattle.sequencer_reads.proofs.judge_plane.Statement.{statement}
-use Rattle.sequencer_reads.proofs.judge_plane.Tie as tie
+use Rattle.sequencer_reads.proofs.judge_direct.Statement.{statement}
+use Rattle.sequencer_reads.proofs.judge_direct.Tie as tie
 
 fits-seq-requires : tie.Need-fits-seq-requires
 fits-seq-requires c κs = search needs
@@ -17,5 +17,5 @@ judge-plane-requires c κs = search needs
 returns-2 : tie.Need-returns-2
 returns-2 c = rw (sym (c .before .before .fits-seq .ensures) ∙ not-false _ (c .before .if1 .left)) (c .judge-plane .ensures)
 
-pub judge-plane-spec : {M : Type 1} → statement M
-judge-plane-spec = tie.close (tie.spec fits-seq-requires returns judge-plane-requires returns-2)
+pub judge-direct-spec : {M : Type 1} → statement M
+judge-direct-spec = tie.close (tie.spec fits-seq-requires returns judge-plane-requires returns-2)

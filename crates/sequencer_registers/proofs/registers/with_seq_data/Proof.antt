@@ -1,11 +1,11 @@
--- `written` changes what hangs on the register that stands selected, and nothing else.
+-- `with_seq_data` changes what hangs on the register that stands selected, and nothing else.
 use native.Mathlib.Omega.{arith}
 use lib.Bits.{and-mask}
 use borrow.Author.Needs.{needs}
 use Rattle.machine.specs.Sequencer.{withSeqData, seqKeeps}
 use Rattle.sequencer_registers.proofs.Laws.{data-keeps, data-bit}
-use Rattle.sequencer_registers.proofs.registers.written.Statement.{statement}
-use Rattle.sequencer_registers.proofs.registers.written.Tie as tie
+use Rattle.sequencer_registers.proofs.registers.with_seq_data.Statement.{statement}
+use Rattle.sequencer_registers.proofs.registers.with_seq_data.Tie as tie
 
 enum-told : tie.Need-enum-told
 enum-told c = search needs
@@ -54,8 +54,8 @@ returns-6 : tie.Need-returns-6
 unfolding withSeqData seqKeeps
 returns-6 c = rw (c .enum-told6 .given .1)
 
-pub written-spec : {M : Type 1} → statement M
-written-spec =
+pub with-seq-data-spec : {M : Type 1} → statement M
+with-seq-data-spec =
     tie.close
     (tie.spec
     enum-told
