@@ -287,10 +287,20 @@ def line(call, arguments, refused_value):
     return "0 " + (" ".join(map(str, value)) if isinstance(value, (list, tuple)) else str(value))
 
 
+def no_call(operation, arguments, known):
+    """The word for a line that is no call: too many numbers, or an operation that there is not."""
+    if len(arguments) > 4:
+        return "overlong"
+    return None if operation < known else "unknown"
+
+
 def main():
     calls = operations(Model())
     rows = ([int(digits) % 2 ** 64 for digits in re.findall("[0-9]+", text.split("#")[0])] for text in sys.stdin)
     for number, (operation, *arguments) in enumerate(filter(None, rows), 1):
+        if word := no_call(operation, arguments, len(calls)):
+            print(number, operation, word)
+            continue
         call, count = calls[operation]
         print(number, operation, line(call, (arguments + [0] * 4)[:count], "0 0" if operation == 37 else "0"))
 

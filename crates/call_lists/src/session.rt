@@ -70,9 +70,13 @@ pub fn feed(
         return next;
     }
     let call = line.call();
+    if line.overlong {
+        told(next.calls, call.operation, Said::Overlong);
+        return next;
+    }
     if call.operation == settings::PUT {
         settings::put(call, p0, p1, p2, p3, picture);
-        told(next.calls, call.operation, said::given(0));
+        told(next.calls, call.operation, said::done());
         return next;
     }
     lend(next, call, p0, p1, p2, p3, picture)
@@ -168,7 +172,7 @@ fn set(session: Session, call: Call) -> Session {
         43 => next.seq = settings::sequencer(call, seq),
         _ => next.lent = settings::lengths(call, lent),
     }
-    told(next.calls, operation, said::given(0));
+    told(next.calls, operation, said::done());
     next
 }
 

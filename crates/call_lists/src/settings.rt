@@ -1,7 +1,7 @@
 // What no port and no call of the Rust does, for cases that ports cannot reach: any value in a field of a record, any byte in memory, any
 // length lent. Fields are numbered in the order of the digest; a field or a register of none changes nothing.
 use list_lines::line::Call;
-use list_lines::line::byte;
+use list_lines::line::low_byte;
 use types::GraphicsController;
 use types::GraphicsControllerStats;
 use types::GraphicsRegisters;
@@ -25,7 +25,7 @@ fn count(n: usize) -> u32 {
 // Operation 42.
 pub fn controller(call: Call, gc: GraphicsController) -> GraphicsController {
     let field = call.first;
-    let x = byte(call.second);
+    let x = low_byte(call.second);
     let kept = gc.registers;
     let counts = gc.stats;
     let held = gc.latches;
@@ -105,7 +105,7 @@ fn counter(counts: GraphicsControllerStats, field: usize, n: u32) -> GraphicsCon
 // Operation 43.
 pub fn sequencer(call: Call, seq: Sequencer) -> Sequencer {
     let field = call.first;
-    let x = byte(call.second);
+    let x = low_byte(call.second);
     if field == 1 {
         return selecting_of_sequencer(seq, x);
     }
@@ -171,7 +171,7 @@ pub fn put(
 ) {
     let which = call.first;
     let place = call.second;
-    let x = byte(call.third);
+    let x = low_byte(call.third);
     match which {
         0 => put_byte(p0, place, x),
         1 => put_byte(p1, place, x),

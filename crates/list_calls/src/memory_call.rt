@@ -1,4 +1,7 @@
 // Calls that read memory, of each layer.
+use answers::of_byte;
+use answers::of_part;
+use answers::of_pixel;
 use graphics_controller::cpu_peek_u8;
 use graphics_controller::cpu_read_u8;
 use list_lines::line::Call;
@@ -46,14 +49,14 @@ fn of_memory(call: Call, p0: &[u8], p1: &[u8], p2: &[u8], p3: &[u8], picture: &[
     let o = PlaneOffset(call.second);
     let operation = call.operation;
     match operation {
-        1 => said::byte(vram::read_u8(p0, p1, p2, p3, picture, a, o)),
-        2 => said::byte(vram::peek_u8(p0, p1, p2, p3, picture, a, o)),
-        3 => said::byte(vram::read_glyph(p0, p1, p2, p3, picture, PlaneOffset(a))),
-        4 => said::byte(vram::read_linear(p0, p1, p2, p3, picture, PixelPlace(a))),
+        1 => said::answer(of_byte(vram::read_u8(p0, p1, p2, p3, picture, a, o))),
+        2 => said::answer(of_byte(vram::peek_u8(p0, p1, p2, p3, picture, a, o))),
+        3 => said::answer(of_byte(vram::read_glyph(p0, p1, p2, p3, picture, PlaneOffset(a)))),
+        4 => said::answer(of_pixel(vram::read_linear(p0, p1, p2, p3, picture, PixelPlace(a)))),
         _ => {
             let mut number = UNTOLD;
             let part = vram::serialize_linear(p0, p1, p2, p3, picture, PlaneOffset(a), &mut number);
-            said::part(number, part)
+            said::shown(of_part(number, part))
         }
     }
 }
@@ -72,15 +75,15 @@ fn of_sequencer(
     let a0 = call.third == 1;
     let operation = call.operation;
     match operation {
-        19 => said::byte(sequencer::cpu_read_u8(seq, p0, p1, p2, p3, picture, a, o, a0)),
-        20 => said::byte(sequencer::peek_u8(seq, p0, p1, p2, p3, picture, a, o, a0)),
-        21 => said::byte(sequencer::gc_read_u8(seq, p0, p1, p2, p3, picture, a, o, a0)),
-        22 => said::byte(sequencer::read_linear(seq, p0, p1, p2, p3, picture, PixelPlace(a))),
+        19 => said::answer(of_byte(sequencer::cpu_read_u8(seq, p0, p1, p2, p3, picture, a, o, a0))),
+        20 => said::answer(of_byte(sequencer::peek_u8(seq, p0, p1, p2, p3, picture, a, o, a0))),
+        21 => said::answer(of_byte(sequencer::gc_read_u8(seq, p0, p1, p2, p3, picture, a, o, a0))),
+        22 => said::answer(of_pixel(sequencer::read_linear(seq, p0, p1, p2, p3, picture, PixelPlace(a)))),
         _ => {
             let mut number = UNTOLD;
             let o = PlaneOffset(a);
             let part = sequencer::serialize_linear(seq, p0, p1, p2, p3, picture, o, &mut number);
-            said::part(number, part)
+            said::shown(of_part(number, part))
         }
     }
 }
@@ -105,14 +108,14 @@ fn of_controller(
             let answer = r.answer;
             GraphicsLeft {
                 gc: kept,
-                said: said::byte(answer),
+                said: said::answer(of_byte(answer)),
             }
         }
         39 => {
             let answer = cpu_peek_u8(gc, seq, p0, p1, p2, p3, picture, a, page);
             GraphicsLeft {
                 gc,
-                said: said::byte(answer),
+                said: said::answer(of_byte(answer)),
             }
         }
         _ => {
@@ -135,5 +138,5 @@ fn shown(
     let mut number = UNTOLD;
     let o = PlaneOffset(offset);
     let part = graphics_controller::serialize(gc, seq, p0, p1, p2, p3, picture, o, &mut number);
-    said::part(number, part)
+    said::shown(of_part(number, part))
 }

@@ -1,6 +1,6 @@
 // Calls on the sequencer's record: the record as it is left, and the answer.
 use list_lines::line::Call;
-use list_lines::line::byte;
+use list_lines::line::low_byte;
 use list_lines::said;
 use list_lines::said::Said;
 use types::Sequencer;
@@ -16,7 +16,7 @@ pub fn ports(call: Call, seq: Sequencer) -> SequencerLeft {
     match operation {
         11 => SequencerLeft {
             seq: sequencer::reset(seq),
-            said: said::given(0),
+            said: said::done(),
         },
         13 => left(sequencer::set_clock_change_pending(seq)),
         14 => {
@@ -25,11 +25,11 @@ pub fn ports(call: Call, seq: Sequencer) -> SequencerLeft {
             let answer = r.answer;
             SequencerLeft {
                 seq: kept,
-                said: said::flag(answer),
+                said: said::answer(answers::of_flag(answer)),
             }
         }
-        17 => left(sequencer::write_address(seq, byte(call.first))),
-        18 => left(sequencer::write_data(seq, byte(call.first))),
+        17 => left(sequencer::write_address(seq, low_byte(call.first))),
+        18 => left(sequencer::write_data(seq, low_byte(call.first))),
         _ => SequencerLeft {
             seq,
             said: asks(operation, seq),
@@ -42,14 +42,14 @@ fn left(r: SequencerDone) -> SequencerLeft {
     let answer = r.answer;
     SequencerLeft {
         seq: kept,
-        said: said::done(answer),
+        said: said::answer(answers::of_done(answer)),
     }
 }
 
 fn asks(operation: usize, seq: Sequencer) -> Said {
     match operation {
-        12 => said::clock(sequencer::clock(seq)),
-        15 => said::byte(sequencer::read_address(seq)),
-        _ => said::byte(sequencer::read_data(seq)),
+        12 => said::clock(answers::of_clock(sequencer::clock(seq))),
+        15 => said::answer(answers::of_byte(sequencer::read_address(seq))),
+        _ => said::answer(answers::of_byte(sequencer::read_data(seq))),
     }
 }

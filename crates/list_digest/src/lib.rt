@@ -8,7 +8,7 @@ use types::GraphicsControllerStats;
 use types::GraphicsRegisters;
 use types::Sequencer;
 
-fn byte(x: u8) -> u64 {
+fn widened(x: u8) -> u64 {
     x as u64
 }
 
@@ -19,17 +19,17 @@ fn count(x: u32) -> u64 {
 fn registers(r: GraphicsRegisters, out: &mut [u8; 512], at: usize) -> usize {
     let selected = r.register_selected;
     let list = [
-        byte(r.register_select_byte),
-        byte(fields::gc::register_number(selected)),
-        byte(r.set_reset),
-        byte(r.enable_set_reset),
-        byte(r.color_compare),
-        byte(r.data_rotate),
-        byte(r.read_map_select),
-        byte(r.mode),
-        byte(r.miscellaneous),
-        byte(r.color_dont_care),
-        byte(r.bitmask),
+        widened(r.register_select_byte),
+        widened(fields::gc::register_number(selected)),
+        widened(r.set_reset),
+        widened(r.enable_set_reset),
+        widened(r.color_compare),
+        widened(r.data_rotate),
+        widened(r.read_map_select),
+        widened(r.mode),
+        widened(r.miscellaneous),
+        widened(r.color_dont_care),
+        widened(r.bitmask),
     ];
     numbers(out, at, &list)
 }
@@ -37,13 +37,13 @@ fn registers(r: GraphicsRegisters, out: &mut [u8; 512], at: usize) -> usize {
 fn sequencer(s: Sequencer, out: &mut [u8; 512], at: usize) -> usize {
     let selected = s.register_selected;
     let list = [
-        byte(s.address_byte),
-        byte(fields::seq::register_number(selected)),
-        byte(s.reset),
-        byte(s.clocking_mode),
-        byte(s.map_mask),
-        byte(s.character_map_select),
-        byte(s.memory_mode),
+        widened(s.address_byte),
+        widened(fields::seq::register_number(selected)),
+        widened(s.reset),
+        widened(s.clocking_mode),
+        widened(s.map_mask),
+        widened(s.character_map_select),
+        widened(s.memory_mode),
         bit(s.clock_change_pending),
         count(s.clock_divisor),
         count(s.char_clock),
@@ -52,7 +52,7 @@ fn sequencer(s: Sequencer, out: &mut [u8; 512], at: usize) -> usize {
 }
 
 fn latches(l: [u8; 4], out: &mut [u8; 512], at: usize) -> usize {
-    let list = [byte(l[0]), byte(l[1]), byte(l[2]), byte(l[3])];
+    let list = [widened(l[0]), widened(l[1]), widened(l[2]), widened(l[3])];
     numbers(out, at, &list)
 }
 

@@ -1,4 +1,4 @@
-// A line of a list: up to five decimal numbers, an operation and its arguments; '#' begins a comment.
+// A line of a list: up to five decimal numbers, an operation and its arguments; '#' begins a comment. A line of more is no call, and is told as such.
 use std::num::wrapping_add_usize;
 
 // An operation's number and its arguments; those that it has not are 0.
@@ -17,6 +17,8 @@ pub struct Line {
     // whether a number is being read
     pub open: bool,
     pub comment: bool,
+    // whether it has more numbers than are kept
+    pub overlong: bool,
 }
 
 impl Line {
@@ -26,6 +28,7 @@ impl Line {
             count: 0,
             open: false,
             comment: false,
+            overlong: false,
         }
     }
 
@@ -49,6 +52,7 @@ impl Line {
         }
         let at = self.count;
         if at >= 5 {
+            self.overlong = true;
             return self;
         }
         let old = self.numbers[at];
@@ -97,7 +101,7 @@ fn with_digit(number: usize, digit: u8) -> usize {
     wrapping_add_usize(ten_times, digit as usize)
 }
 
-// An argument as a byte.
-pub fn byte(n: usize) -> u8 {
+// An argument as a byte: its low eight bits.
+pub fn low_byte(n: usize) -> u8 {
     (n % 256) as u8
 }

@@ -22,6 +22,12 @@ pub fn digits(out: &mut [u8; 512], at: usize, n: u64) -> usize {
     copy(out, at, &text[..k])
 }
 
+// A blank and a word.
+pub fn word(out: &mut [u8; 512], at: usize, text: &[u8]) -> usize {
+    let next = put(out, at, b' ');
+    copy(out, next, text)
+}
+
 fn copy(out: &mut [u8; 512], at: usize, text: &[u8]) -> usize {
     let mut next = at;
     let mut i = 0;

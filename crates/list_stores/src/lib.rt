@@ -1,11 +1,12 @@
 // The calls of a list that store, of each layer.
+use answers::of_done;
+use answers::of_store;
 use graphics_controller::cpu_write_u8;
 use list_lines::line::Call;
-use list_lines::line::byte;
+use list_lines::line::low_byte;
 use list_lines::said::GraphicsLeft;
 use list_lines::said::Said;
-use list_lines::said::done;
-use list_lines::said::store;
+use list_lines::said::answer;
 use sequencer::plane_and;
 use sequencer::plane_or;
 use sequencer::plane_set;
@@ -32,13 +33,13 @@ pub fn stores(
 ) -> GraphicsLeft {
     if call.operation == 40 {
         let page = call.second == 1;
-        let x = byte(call.third);
+        let x = low_byte(call.third);
         let r = cpu_write_u8(gc, seq, p0, p1, p2, p3, picture, call.first, page, x);
         let kept = r.gc;
-        let answer = r.answer;
+        let stored = r.answer;
         return GraphicsLeft {
             gc: kept,
-            said: store(answer),
+            said: answer(of_store(stored)),
         };
     }
     if call.operation <= 10 {
@@ -59,14 +60,14 @@ fn on_memory(
 ) -> Said {
     let plane = call.first;
     let o = PlaneOffset(call.second);
-    let x = byte(call.third);
+    let x = low_byte(call.third);
     let operation = call.operation;
     match operation {
-        6 => store(vram::write_u8(p0, p1, p2, p3, picture, plane, o, x)),
-        7 => store(vram::plane_set(p0, p1, p2, p3, picture, plane, o, x)),
-        8 => store(vram::plane_and(p0, p1, p2, p3, picture, plane, o, x)),
-        9 => store(vram::plane_or(p0, p1, p2, p3, picture, plane, o, x)),
-        _ => done(vram::deplane(p0, p1, p2, p3, picture, PlaneOffset(plane))),
+        6 => answer(of_store(vram::write_u8(p0, p1, p2, p3, picture, plane, o, x))),
+        7 => answer(of_store(vram::plane_set(p0, p1, p2, p3, picture, plane, o, x))),
+        8 => answer(of_store(vram::plane_and(p0, p1, p2, p3, picture, plane, o, x))),
+        9 => answer(of_store(vram::plane_or(p0, p1, p2, p3, picture, plane, o, x))),
+        _ => answer(of_done(vram::deplane(p0, p1, p2, p3, picture, PlaneOffset(plane)))),
     }
 }
 
@@ -82,11 +83,11 @@ fn on_sequencer(
     let plane = call.first;
     let o = PlaneOffset(call.second);
     let a0 = call.third == 1;
-    let x = byte(call.fourth);
+    let x = low_byte(call.fourth);
     let operation = call.operation;
     match operation {
-        24 => store(plane_set(seq, p0, p1, p2, p3, picture, plane, o, a0, x)),
-        25 => store(plane_and(seq, p0, p1, p2, p3, picture, plane, o, a0, x)),
-        _ => store(plane_or(seq, p0, p1, p2, p3, picture, plane, o, a0, x)),
+        24 => answer(of_store(plane_set(seq, p0, p1, p2, p3, picture, plane, o, a0, x))),
+        25 => answer(of_store(plane_and(seq, p0, p1, p2, p3, picture, plane, o, a0, x))),
+        _ => answer(of_store(plane_or(seq, p0, p1, p2, p3, picture, plane, o, a0, x))),
     }
 }
