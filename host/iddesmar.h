@@ -100,7 +100,7 @@ typedef struct iddesmar_clock {
 typedef struct iddesmar_mapped {
     size_t offset;
     uint8_t number;
-    IDDESMAR_BOOL a0;
+    uint8_t a0; /* 0 or 1 */
 } iddesmar_mapped;
 
 /* The eight pixels of an offset, in bits 0 to 3 of a byte each; eight zeros where refused. */

@@ -165,7 +165,7 @@ struct Clock {
 struct Mapped {
     offset: usize,
     number: u8,
-    a0: bool,
+    a0: u8,
 }
 
 #[repr(C)]
@@ -550,7 +550,7 @@ impl GraphicsController {
     /// The plane offset and a0.
     pub fn map_address(&self, address: usize, page_select: PageSelect) -> Result<(usize, bool), Refusal> {
         let mapped = asked!(iddesmar_gc_map_address(self.record, address, page_select == PageSelect::HighPage));
-        judged(mapped.number, (mapped.offset, mapped.a0))
+        judged(mapped.number, (mapped.offset, mapped.a0 != 0))
     }
 
     pub fn cpu_read_u8<B: AsRef<[u8]> + AsMut<[u8]>>(&mut self, seq: &Sequencer<B>, address: usize, page_select: PageSelect) -> Result<u8, Refusal> {

@@ -37,13 +37,13 @@ use denote.Triple.Walked.{says, Stays, stay-ref, stay-dropped, walkOf, goes-ref,
 use denote.Triple.Clauses.{Ended, Clauses, closing, ensured, lasts}
 use denote.Exit.{yes}
 use Rattle.machine.specs.Answers.{Outcome, outcome}
-use Rattle.host_answers.specs.Answers.{answerSaid}
+use Rattle.answers.specs.Answers.{answerSaid}
 use Rattle.host_records.specs.declared.record.ControllerRecord.{ControllerRecord}
 use Rattle.host_records.specs.declared.left.ControllerAnswer.{ControllerAnswer}
 use Rattle.host_records.proofs.record.ControllerRecord as G
 use Rattle.host_records.proofs.record.ControllerRecord.Laws as G′
-use Rattle.host_answers.proofs.Answer as N
-use Rattle.host_answers.proofs.Answer.Laws as N′
+use Rattle.answers.proofs.narrow.Answer as N
+use Rattle.answers.proofs.narrow.Answer.Laws as N′
 use Rattle.host_records.proofs.left.ControllerAnswer as R
 use Rattle.host_records.proofs.left.ControllerAnswer.Laws as R′
 use Rattle.host_records.proofs.InPlace.{gval, head-is, rval, aval, an-is, gc-is}

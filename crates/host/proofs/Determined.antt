@@ -17,13 +17,12 @@ use Rattle.machine.specs.Memory.{Memory, lent}
 use Rattle.machine.specs.Answers.{one, Outcome, outcome}
 use Rattle.machine.specs.Calls.{gcReset, gcWriteAddress, gcWriteData, cpuRead, cpuWrite}
 use Rattle.machine.specs.Step.{lifted, graphicsStep}
-use Rattle.host_answers.specs.declared.Answer.{Answer}
-use Rattle.host_wide_answers.specs.declared.Clock.{Clock}
-use Rattle.host_wide_answers.specs.declared.Mapped.{Mapped}
-use Rattle.host_wide_answers.specs.declared.Shown.{Shown}
-use Rattle.host_answers.specs.Answers.{answerSaid}
-use Rattle.host_answers.proofs.Told.{answer-is, pixel-is}
-use Rattle.host_wide_answers.proofs.Told.{clock-is, mapped-is}
+use Rattle.answers.specs.declared.narrow.Answer.{Answer}
+use Rattle.answers.specs.declared.wide.Clock.{Clock}
+use Rattle.answers.specs.declared.wide.Mapped.{Mapped}
+use Rattle.answers.specs.declared.wide.Shown.{Shown}
+use Rattle.answers.specs.Answers.{answerSaid}
+use Rattle.answers.proofs.Told.{answer-is, pixel-is, clock-is, mapped-is}
 use Rattle.host_records.specs.declared.record.ControllerRecord.{ControllerRecord}
 use Rattle.host_records.specs.declared.record.SequencerRecord.{SequencerRecord}
 use Rattle.host_records.specs.declared.left.SequencerAnswer.{SequencerAnswer}

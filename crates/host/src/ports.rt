@@ -4,26 +4,26 @@ ghost use Rattle.machine.specs.Answers.{one, two, outcome};
 ghost use Rattle.types.specs.Start.{freshGc};
 ghost use Rattle.machine.specs.Calls.{gcReset, gcChain, gcChain4, gcMemoryMap, gcOddEven, gcShiftMode, gcReadAddress, gcReadData, gcWriteAddress, gcWriteData, gcMapAddress};
 ghost use Rattle.machine.specs.Step.{lifted, graphicsStep};
-ghost use Rattle.host_answers.specs.Answers.{answerSaid};
-ghost use Rattle.host_wide_answers.specs.Wide.{mappedSaid as mappedAnswerSaid};
+ghost use Rattle.answers.specs.Answers.{answerSaid};
+ghost use Rattle.answers.specs.Wide.{mappedAnswerSaid};
 ghost use Rattle.host_records.specs.Records.{controllerOf, recordOf};
 ghost use Rattle.host_calls.specs.Hosted.{graphicsHosted};
-use host_answers::Answer;
-use host_answers::of_byte;
-use host_answers::of_flag;
-use host_answers::unknown;
+use answers::Answer;
+use answers::Mapped;
+use answers::of_byte;
+use answers::of_flag;
+use answers::of_map;
+use answers::of_mapped;
+use answers::of_odd_even;
+use answers::of_shift;
+use answers::unknown;
 use host_calls::address_of;
 use host_calls::data_of;
 use host_calls::reset_of;
-use host_field_answers::of_map;
-use host_field_answers::of_odd_even;
-use host_field_answers::of_shift;
 use host_records::record::ControllerRecord;
 use host_records::record::known_controller;
 use host_records::record::of_controller;
 use host_records::record::to_controller;
-use host_wide_answers::Mapped;
-use host_wide_answers::of_mapped;
 use types::GraphicsController;
 
 // The start record.
@@ -144,7 +144,7 @@ pub extern "C" fn iddesmar_gc_map_address(
         return Mapped {
             offset: 0,
             number: 6,
-            a0: false,
+            a0: 0,
         };
     }
     of_mapped(graphics_controller::map_address(to_controller(gc), address, page))

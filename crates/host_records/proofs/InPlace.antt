@@ -17,8 +17,8 @@ use Rattle.host_records.proofs.record.ControllerRecord as G
 use Rattle.host_records.proofs.record.ControllerRecord.Laws as G′
 use Rattle.host_records.proofs.record.SequencerRecord as S
 use Rattle.host_records.proofs.record.SequencerRecord.Laws as S′
-use Rattle.host_answers.proofs.Answer as N
-use Rattle.host_answers.proofs.Answer.Laws as N′
+use Rattle.answers.proofs.narrow.Answer as N
+use Rattle.answers.proofs.narrow.Answer.Laws as N′
 use Rattle.host_records.proofs.left.ControllerAnswer as R
 use Rattle.host_records.proofs.left.ControllerAnswer.Laws as R′
 use Rattle.host_records.proofs.left.StatsAnswer as C

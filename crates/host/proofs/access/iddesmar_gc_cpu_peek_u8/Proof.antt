@@ -2,7 +2,7 @@
 use mathlib.Core.Path.{refl, ap}
 use Rattle.machine.specs.Memory.{mem}
 use Rattle.machine.specs.Answers.{one}
-use Rattle.host_answers.specs.Answers.{answerSaid}
+use Rattle.answers.specs.Answers.{answerSaid}
 use Rattle.host_calls.proofs.Laws.{unknown-of, known-of, cpu-unknown, cpu-asked}
 use borrow.Author.Needs.{needs}
 use Rattle.host.proofs.access.iddesmar_gc_cpu_peek_u8.Statement.{statement}

@@ -40,13 +40,13 @@ use Rattle.machine.specs.Answers.{outcome}
 use Rattle.machine.specs.Calls.{gcReset}
 use Rattle.machine.specs.Step.{lifted, graphicsStep}
 use Rattle.host_records.specs.Records.{controllerOf, recordOf}
-use Rattle.host_answers.specs.Answers.{answerSaid}
+use Rattle.answers.specs.Answers.{answerSaid}
 use Rattle.host_records.specs.declared.record.ControllerRecord.{ControllerRecord}
 use Rattle.host_records.specs.declared.left.ControllerAnswer.{ControllerAnswer}
 use Rattle.host_records.proofs.record.ControllerRecord as G
 use Rattle.host_records.proofs.record.ControllerRecord.Laws as G′
-use Rattle.host_answers.proofs.Answer as N
-use Rattle.host_answers.proofs.Answer.Laws as N′
+use Rattle.answers.proofs.narrow.Answer as N
+use Rattle.answers.proofs.narrow.Answer.Laws as N′
 use Rattle.host_records.proofs.left.ControllerAnswer as R
 use Rattle.host_records.proofs.left.ControllerAnswer.Laws as R′
 use Rattle.host_records.proofs.InPlace.{gval, head-is, rval, aval, an-is, gc-is}

@@ -1,0 +1,39 @@
+-- `of_map` tells number and value: from `map_number`, `given` and `refused`.
+use borrow.Author.Needs.{needs}
+use Rattle.answers.proofs.orders.of_map.Statement.{statement}
+use Rattle.answers.proofs.orders.of_map.Tie as tie
+
+enum-known-answer : tie.Need-enum-known-answer
+enum-known-answer c = search needs
+
+map-number-requires : tie.Need-map-number-requires
+map-number-requires c κs = search needs
+
+given-requires : tie.Need-given-requires
+given-requires c κs = search needs
+
+enum-known-answer-2 : tie.Need-enum-known-answer-2
+enum-known-answer-2 c = search needs
+
+refused-requires : tie.Need-refused-requires
+refused-requires c κs = search needs
+
+returns : tie.Need-returns
+returns c =
+    rw (c .given .ensures, c .before .before .before .answer .given .1, c .before .map-number .ensures)
+
+returns-2 : tie.Need-returns-2
+returns-2 c =
+    rw (c .refused .ensures, c .before .before .answer2 .given .1)
+
+pub of-map-spec : {M : Type 1} → statement M
+of-map-spec =
+    tie.close
+    (tie.spec
+    enum-known-answer
+    map-number-requires
+    given-requires
+    enum-known-answer-2
+    refused-requires
+    returns
+    returns-2)

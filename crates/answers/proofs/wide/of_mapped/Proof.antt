@@ -1,0 +1,29 @@
+-- `of_mapped` tells number, offset and a0: from `refusal_number`.
+use borrow.Author.Needs.{needs}
+use Rattle.answers.proofs.wide.of_mapped.Statement.{statement}
+use Rattle.answers.proofs.wide.of_mapped.Tie as tie
+
+enum-known-answer : tie.Need-enum-known-answer
+enum-known-answer c = search needs
+
+cast-t6 : tie.Need-cast-t6
+cast-t6 c = search needs
+
+enum-known-answer-2 : tie.Need-enum-known-answer-2
+enum-known-answer-2 c = search needs
+
+refusal-number-requires : tie.Need-refusal-number-requires
+refusal-number-requires c κs = search needs
+
+returns : tie.Need-returns
+returns c =
+    rw (c .before .answer .given .1)
+
+returns-2 : tie.Need-returns-2
+returns-2 c =
+    rw (c .before .before .answer2 .given .1, c .refusal-number .ensures)
+
+pub of-mapped-spec : {M : Type 1} → statement M
+of-mapped-spec =
+    tie.close
+    (tie.spec enum-known-answer cast-t6 enum-known-answer-2 refusal-number-requires returns returns-2)

@@ -1,0 +1,53 @@
+-- `of_part` copies eight pixels, or gives zeros: from the test on the length.
+use borrow.Author.Tests.{eq-eqb, ne-eqb}
+use Rattle.answers.proofs.Laws.{eight}
+use borrow.Author.Needs.{needs}
+use Rattle.answers.proofs.wide.of_part.Statement.{statement}
+use Rattle.answers.proofs.wide.of_part.Tie as tie
+
+returns : tie.Need-returns
+returns c =
+    simp (ne-eqb _ _ (c .if1 .taken))
+
+shared-slice-read-t8 : tie.Need-shared-slice-read-t8
+shared-slice-read-t8 c = search needs
+
+shared-slice-read-t10 : tie.Need-shared-slice-read-t10
+shared-slice-read-t10 c = search needs
+
+shared-slice-read-t12 : tie.Need-shared-slice-read-t12
+shared-slice-read-t12 c = search needs
+
+shared-slice-read-t14 : tie.Need-shared-slice-read-t14
+shared-slice-read-t14 c = search needs
+
+shared-slice-read-t16 : tie.Need-shared-slice-read-t16
+shared-slice-read-t16 c = search needs
+
+shared-slice-read-t18 : tie.Need-shared-slice-read-t18
+shared-slice-read-t18 c = search needs
+
+shared-slice-read-t20 : tie.Need-shared-slice-read-t20
+shared-slice-read-t20 c = search needs
+
+shared-slice-read-t22 : tie.Need-shared-slice-read-t22
+shared-slice-read-t22 c = search needs
+
+returns-2 : tie.Need-returns-2
+returns-2 c =
+    simp (eq-eqb _ _ (c .before .before .before .before .before .before .before .before .if1 .left), eight (c .before .before .before .before .before .before .before .before .before .args .part .now) (c .before .before .before .before .before .before .before .before .if1 .left))
+
+pub of-part-spec : {M : Type 1} → statement M
+of-part-spec =
+    tie.close
+    (tie.spec
+    returns
+    shared-slice-read-t8
+    shared-slice-read-t10
+    shared-slice-read-t12
+    shared-slice-read-t14
+    shared-slice-read-t16
+    shared-slice-read-t18
+    shared-slice-read-t20
+    shared-slice-read-t22
+    returns-2)

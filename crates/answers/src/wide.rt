@@ -1,0 +1,90 @@
+// Answers whose value is wider than a byte: a clock, where an address leads, eight pixels.
+ghost use mathlib.Core.Path.{_≡_};
+ghost use mathlib.Core.List.{[]};
+ghost use Rattle.machine.specs.Answers.{clockSaid, mappedSaid, partSaid};
+ghost use Rattle.answers.specs.Wide.{clockAnswerSaid, mappedAnswerSaid, shownOf};
+use types::ClockAnswer;
+use types::MappedAnswer;
+
+// The character clock.
+#[repr(C)]
+pub struct Clock {
+    pub clock: u32,
+    pub number: u8,
+}
+
+// Where an address leads: the offset, and bit 0 of the address.
+#[repr(C)]
+pub struct Mapped {
+    pub offset: usize,
+    pub number: u8,
+    pub a0: u8,
+}
+
+// The eight pixels of a show by value, since a part of a lent slice cannot cross the boundary; eight zeros where refused.
+#[repr(C)]
+pub struct Shown {
+    pub pixels: [u8; 8],
+    pub number: u8,
+}
+
+pub fn of_clock(answer: ClockAnswer) -> Clock
+    ensures { λ r. ⌜ clockAnswerSaid r ≡ clockSaid answer ⌝ }
+{
+    match answer {
+        ClockAnswer::Done(clock) => Clock { clock, number: 0 },
+        ClockAnswer::Refused(x) => Clock {
+            clock: 0,
+            number: fields::refusal_number(x),
+        },
+    }
+}
+
+pub fn of_mapped(answer: MappedAnswer) -> Mapped
+    ensures { λ r. ⌜ mappedAnswerSaid r ≡ mappedSaid answer ⌝ }
+{
+    match answer {
+        MappedAnswer::Done(offset, a0) => Mapped {
+            offset: offset.0,
+            number: 0,
+            a0: a0 as u8,
+        },
+        MappedAnswer::Refused(x) => Mapped {
+            offset: 0,
+            number: fields::refusal_number(x),
+            a0: 0,
+        },
+    }
+}
+
+pub fn unknown_shown() -> Shown
+    ensures { λ r. ⌜ r ≡ shownOf (partSaid 6 []) ⌝ }
+{
+    Shown {
+        number: 6,
+        pixels: [0u8; 8],
+    }
+}
+
+// A show's number, and its eight pixels where there are eight.
+pub fn of_part(number: u8, part: &[u8]) -> Shown
+    ensures { λ r. ⌜ r ≡ shownOf (partSaid number (now (part .entry))) ⌝ }
+{
+    if part.len() != 8 {
+        return Shown {
+            number,
+            pixels: [0u8; 8],
+        };
+    }
+    let pixels = [
+        part[0],
+        part[1],
+        part[2],
+        part[3],
+        part[4],
+        part[5],
+        part[6],
+        part[7],
+    ];
+    Shown { number, pixels }
+}
