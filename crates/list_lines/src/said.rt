@@ -42,7 +42,7 @@ pub fn clock(given: Clock) -> Said {
 }
 
 pub fn mapped(given: Mapped) -> Said {
-    Said::Mapped(given.number, given.offset as u64, bit(given.a0))
+    Said::Mapped(given.number, given.offset as u64, given.a0 as u64)
 }
 
 pub fn bit(b: bool) -> u64 {

@@ -9,7 +9,7 @@ use lib.Seq.{length-take-le}
 use Rattle.types.specs.declared.graphics.GraphicsController.{GraphicsController}
 use Rattle.types.specs.declared.sequencer.Sequencer.{Sequencer}
 use Rattle.machine.specs.Memory.{Memory, shape}
-use Rattle.machine.specs.Answers.{Value, one, two, pixel, part, Said, said, Outcome, outcome, answered, partSaid}
+use Rattle.machine.specs.Answers.{one, part, pixelsOf, Said, said, Outcome, outcome, answered, partSaid}
 use Rattle.machine.specs.Deeds.{memoryAfter, latchesAfter, valueOf}
 use Rattle.machine.specs.Calls.{SequencerCall, seqReset, GraphicsCall, gcReset, CpuCall, serialize, showNumber, cpuPlan}
 use Rattle.machine.specs.Step.{sequencerStep, graphicsStep, Device, device, cpuStep, state, sequencer, graphics, cpu, lifted, withSeq, withGc, withDevice, step}
@@ -41,17 +41,10 @@ module _ (g : GraphicsController) (s : Sequencer) (m : Memory) where
 
 -- ---- a show
 
-partOf : Value → List ℕ
-partOf (one x) = []
-partOf (two x y) = []
-partOf (pixel x) = []
-partOf (part l) = l
-
 -- an answered part is whole or empty
 answered-part : (k n : ℕ) (v l : List ℕ) (new old d : Device) → (0 ≡ k → length v ≡ 8) → outcome (partSaid n l) d ≡ answered k (part v) new old → (length l ≡ 8) ⊎ (l ≡ [])
-unfolding partOf
-answered-part zero n v l new old d h e = inl (ap (λ (o : Outcome Device). length (partOf (o .answer .value))) e ∙ h refl)
-answered-part (suc k) n v l new old d h e = inr (ap (λ (o : Outcome Device). partOf (o .answer .value)) e)
+answered-part zero n v l new old d h e = inl (ap (λ (o : Outcome Device). length (pixelsOf (o .answer .value))) e ∙ h refl)
+answered-part (suc k) n v l new old d h e = inr (ap (λ (o : Outcome Device). pixelsOf (o .answer .value)) e)
 
 -- eight pixels, copied out and read as a part again, are the part; and so are none
 eight-again : (l : List ℕ) → length l ≡ 8 → handedValue (handedOf l) ≡ part l

@@ -9,8 +9,8 @@ ghost use Rattle.tape_machine.specs.Performs.{performed};
 use tape_machine::Eight;
 use tape_machine::Handed;
 use tape_machine::Told;
+use tape_machine::of_answer;
 use tape_records::Command;
-use types::DoneAnswer;
 use types::GraphicsController;
 use types::GraphicsDone;
 use types::PlaneOffset;
@@ -30,7 +30,7 @@ fn graphics_done(done: GraphicsDone, seq: Sequencer) -> Performed
     let answer = done.answer;
     let gc = done.gc;
     Performed {
-        told: tape_told::of_done(answer),
+        told: of_answer(answers::of_done(answer)),
         gc,
         seq,
     }
@@ -42,7 +42,7 @@ fn sequencer_done(gc: GraphicsController, done: SequencerDone) -> Performed
     let answer = done.answer;
     let seq = done.seq;
     Performed {
-        told: tape_told::of_done(answer),
+        told: of_answer(answers::of_done(answer)),
         gc,
         seq,
     }
@@ -65,7 +65,7 @@ fn read(
     let answer = got.answer;
     let next = got.gc;
     Performed {
-        told: tape_told::of_byte(answer),
+        told: of_answer(answers::of_byte(answer)),
         gc: next,
         seq,
     }
@@ -86,7 +86,7 @@ fn peek(
 {
     let answer = graphics_controller::cpu_peek_u8(gc, seq, p0, p1, p2, p3, picture, address, page);
     Performed {
-        told: tape_told::of_byte(answer),
+        told: of_answer(answers::of_byte(answer)),
         gc,
         seq,
     }
@@ -121,7 +121,7 @@ fn write(
     let answer = wrote.answer;
     let next = wrote.gc;
     Performed {
-        told: tape_told::of_store(answer),
+        told: of_answer(answers::of_store(answer)),
         gc: next,
         seq,
     }
@@ -194,7 +194,7 @@ pub fn perform(
 {
     match command {
         Command::Reset => Performed {
-            told: tape_told::of_done(DoneAnswer::Done),
+            told: of_answer(answers::done()),
             gc: graphics_controller::reset(gc),
             seq: sequencer::reset(seq),
         },

@@ -1,4 +1,4 @@
-// What a tape does: specs/ says it, over the types of its answers. Nothing is performed here.
+// What a tape does: specs/ says it, over the types of its answers, which stand here. Nothing is performed.
 mod ran;
 mod told;
 
@@ -6,3 +6,4 @@ pub use ran::Ran;
 pub use told::Eight;
 pub use told::Handed;
 pub use told::Told;
+pub use told::of_answer;

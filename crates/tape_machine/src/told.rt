@@ -1,4 +1,8 @@
 // What a record's call answers: its number, and what it hands back.
+ghost use mathlib.Core.Path.{_≡_};
+ghost use Rattle.answers.specs.Answers.{answerSaid};
+ghost use Rattle.tape_machine.specs.Told.{toldSaid};
+use answers::Answer;
 
 // The eight pixels of a show.
 pub struct Eight {
@@ -24,4 +28,14 @@ pub enum Handed {
 pub struct Told {
     pub number: u8,
     pub handed: Handed,
+}
+
+// The answer of any call but a show, in numbers, as a record's.
+pub fn of_answer(answer: Answer) -> Told
+    ensures { λ r. ⌜ toldSaid r ≡ answerSaid answer ⌝ }
+{
+    Told {
+        number: answer.number,
+        handed: Handed::Byte(answer.value),
+    }
 }

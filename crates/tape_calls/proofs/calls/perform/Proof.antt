@@ -1,6 +1,8 @@
 -- `perform` does what its command stands for: from the arm that was taken and what its call ensures.
 use borrow.Author.Needs.{needs}
+use mathlib.Core.Path.{_∙_, ap}
 use Rattle.tape_machine.specs.Performs.{performed}
+use Rattle.answers.specs.Answers.{answerSaid}
 use Rattle.tape_calls.proofs.Performing.{graphics-so, sequencer-so, reset-so}
 use Rattle.tape_calls.proofs.calls.perform.Statement.{statement}
 use Rattle.tape_calls.proofs.calls.perform.Tie as tie
@@ -8,8 +10,11 @@ use Rattle.tape_calls.proofs.calls.perform.Tie as tie
 enum-told : tie.Need-enum-told
 enum-told c = search needs
 
-of-done-requires : tie.Need-of-done-requires
-of-done-requires c κs = search needs
+done-requires : tie.Need-done-requires
+done-requires c κs = search needs
+
+of-answer-requires : tie.Need-of-answer-requires
+of-answer-requires c κs = search needs
 
 reset-requires : tie.Need-reset-requires
 reset-requires c κs = search needs
@@ -79,7 +84,8 @@ show-requires c κs = search needs
 
 returns : tie.Need-returns
 returns c =
-    rw (c .before .before .before .enum-told .given .1) (reset-so _ _ _ (c .reset2 .ensures) (c .before .reset .ensures) (c .before .before .of-done .ensures))
+    rw (c .before .before .before .before .enum-told .given .1)
+    (reset-so _ _ _ (c .reset2 .ensures) (c .before .reset .ensures) (c .before .before .of-answer .ensures ∙ ap answerSaid (c .before .before .before .done .ensures)))
 
 returns-2 : tie.Need-returns-2
 unfolding performed
@@ -186,7 +192,8 @@ perform-spec =
     tie.close
     (tie.spec
     enum-told
-    of-done-requires
+    done-requires
+    of-answer-requires
     reset-requires
     reset-requires-2
     enum-known-command

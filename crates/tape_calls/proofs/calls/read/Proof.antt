@@ -1,5 +1,6 @@
 -- `read` is the machine's step: from what `cpu_read_u8` ensures.
 use borrow.Author.Needs.{needs}
+use mathlib.Core.Path.{_∙_}
 use Rattle.tape_calls.proofs.Performing.{cpu-so}
 use Rattle.tape_calls.proofs.calls.read.Statement.{statement}
 use Rattle.tape_calls.proofs.calls.read.Tie as tie
@@ -10,9 +11,12 @@ cpu-read-u8-requires c κs = search needs
 of-byte-requires : tie.Need-of-byte-requires
 of-byte-requires c κs = search needs
 
+of-answer-requires : tie.Need-of-answer-requires
+of-answer-requires c κs = search needs
+
 returns : tie.Need-returns
 returns c =
-    cpu-so _ _ _ _ (c .before .before .cpu-read-u8 .ensures) (c .of-byte .ensures)
+    cpu-so _ _ _ _ (c .before .before .before .cpu-read-u8 .ensures) (c .of-answer .ensures ∙ c .before .of-byte .ensures)
 
 pub read-spec : {M : Type 1} → statement M
-read-spec = tie.close (tie.spec cpu-read-u8-requires of-byte-requires returns)
+read-spec = tie.close (tie.spec cpu-read-u8-requires of-byte-requires of-answer-requires returns)

@@ -1,5 +1,6 @@
 -- `write` is the machine's step: from what `cpu_write_u8` ensures.
 use borrow.Author.Needs.{needs}
+use mathlib.Core.Path.{_∙_}
 use Rattle.tape_calls.proofs.Performing.{cpu-so}
 use Rattle.tape_calls.proofs.calls.write.Statement.{statement}
 use Rattle.tape_calls.proofs.calls.write.Tie as tie
@@ -9,6 +10,9 @@ cpu-write-u8-requires c κs = search needs
 
 of-store-requires : tie.Need-of-store-requires
 of-store-requires c κs = search needs
+
+of-answer-requires : tie.Need-of-answer-requires
+of-answer-requires c κs = search needs
 
 same-length : tie.Need-same-length
 same-length c = search needs
@@ -27,7 +31,7 @@ same-length-5 c = search needs
 
 returns : tie.Need-returns
 returns c =
-    cpu-so _ _ _ _ (c .before .before .before .before .before .before .before .before .before .before .before .before .cpu-write-u8 .ensures) (c .of-store .ensures)
+    cpu-so _ _ _ _ (c .before .before .before .before .before .before .before .before .before .before .before .before .before .cpu-write-u8 .ensures) (c .of-answer .ensures ∙ c .before .of-store .ensures)
 
 pub write-spec : {M : Type 1} → statement M
 write-spec =
@@ -35,6 +39,7 @@ write-spec =
     (tie.spec
     cpu-write-u8-requires
     of-store-requires
+    of-answer-requires
     same-length
     same-length-2
     same-length-3
