@@ -78,7 +78,15 @@ fn of_sequencer(
         19 => said::answer(of_byte(sequencer::cpu_read_u8(seq, p0, p1, p2, p3, picture, a, o, a0))),
         20 => said::answer(of_byte(sequencer::peek_u8(seq, p0, p1, p2, p3, picture, a, o, a0))),
         21 => said::answer(of_byte(sequencer::gc_read_u8(seq, p0, p1, p2, p3, picture, a, o, a0))),
-        22 => said::answer(of_pixel(sequencer::read_linear(seq, p0, p1, p2, p3, picture, PixelPlace(a)))),
+        22 => said::answer(of_pixel(sequencer::read_linear(
+            seq,
+            p0,
+            p1,
+            p2,
+            p3,
+            picture,
+            PixelPlace(a),
+        ))),
         _ => {
             let mut number = UNTOLD;
             let o = PlaneOffset(a);

@@ -78,7 +78,12 @@ fn plane_byte(
 }
 
 // The four planes' bytes; the byte is rotated once.
-pub fn plane_bytes(mode: WriteMode, registers: GraphicsRegisters, latches: [u8; 4], byte: u8) -> [u8; 4]
+pub fn plane_bytes(
+    mode: WriteMode,
+    registers: GraphicsRegisters,
+    latches: [u8; 4],
+    byte: u8,
+) -> [u8; 4]
     ensures { λ r. ⌜ r ≡ four (planeBytes mode registers byte latches) ⌝ }
 {
     let turned = rotate_right_u8(byte, fields::gc::rotate_count(registers));
