@@ -1,9 +1,10 @@
 # shellcheck shell=sh
-# Sourced by the scripts that people run; plain sh. A script's usage is the comment at its top; `name` is what it is called in messages.
+# Sourced by the scripts that people run; plain sh. A script's usage is the comment at its top; `name` is what messages call it, with its folder.
 
 script=$(readlink -f "$0")
+folder=${script%/*}
 name=${script##*/}
-[ "$name" != run ] || name=$(basename "$(dirname "$script")")/run
+[ -e "$folder/crates.txt" ] || name=${folder##*/}/$name
 
 usage() { awk 'NR > 1 { if (!sub(/^# ?/, "")) exit; print }' "$script"; }
 
@@ -52,13 +53,13 @@ takes_nothing() {
     [ $# -eq 0 ] || misused "it takes no argument, and here is \"$1\""
 }
 
-# number NAME VALUE: it is a decimal number below 2^31
+# number NAME VALUE LEAST: it is a decimal number from LEAST on and below 2^31
 number() {
     case $2 in
-        '' | *[!0-9]* | ???????????*) ;;
-        *) [ "$2" -ge 2147483648 ] || return 0 ;;
+        '' | *[!0-9]* | 0?* | ???????????*) ;;
+        *) [ "$2" -lt "$3" ] || [ "$2" -ge 2147483648 ] || return 0 ;;
     esac
-    misused "$1 is a number below 2147483648, and not \"$2\""
+    misused "$1 is a number from $3 to 2147483647, and not \"$2\""
 }
 
 # toolchain: the folder of the kit's programs for this kind of processor
@@ -70,14 +71,14 @@ toolchain() {
     echo "$(cd "$(dirname "$(rt doc)")/.." && pwd)/on/$(uname -m)/toolchain"
 }
 
-# program TOOLCHAIN PATH: runs a program for x86-64 by the kit's loader, and by its emulator where it has one
-program() {
-    if [ -x "$1/bin/qemu-x86_64" ]; then
-        "$1/bin/qemu-x86_64" "$1/lib/ld-linux-x86-64.so.2" --library-path "$1/lib" "$2"
-    else
-        "$1/lib/ld-linux-x86-64.so.2" --library-path "$1/lib" "$2"
-    fi
-}
+# program TOOLCHAIN PATH ARGUMENT..: runs a program for x86-64 by the kit's loader, and by its emulator where it has one
+program() (
+    kit=$1
+    shift
+    set -- "$kit/lib/ld-linux-x86-64.so.2" --library-path "$kit/lib" "$@"
+    [ ! -x "$kit/bin/qemu-x86_64" ] || set -- "$kit/bin/qemu-x86_64" "$@"
+    exec "$@"
+)
 
 # alone FOLDER COMMAND..: a command that proves in a repository's folder, when no other does: two at once undo each other's work. The lock is flock's, on
 # the folder itself, which need not be writable; where there is no flock the command is run without it.
