@@ -83,10 +83,13 @@ program() (
 # alone FOLDER COMMAND..: a command that proves in a repository's folder, when no other does: two at once undo each other's work. The lock is flock's, on
 # the folder itself, which need not be writable; where there is no flock the command is run without it.
 alone() (
-    if command -v flock > /dev/null && exec 9< "$1"; then
-        flock -n 9 || {
-            echo "$name: another run proves in $1: waiting for it" >&2
-            flock 9 || true
+    if command -v flock > /dev/null && [ -r "$1" ] && exec 9< "$1"; then
+        flock -n 9 2> /dev/null || {
+            # 1 is a lock that is held; anything else, a place that has no locks
+            [ $? != 1 ] || {
+                echo "$name: another run proves in $(cd "$1" && pwd): waiting for it" >&2
+                flock 9
+            }
         }
     fi
     shift
