@@ -1,6 +1,8 @@
 #!/usr/bin/env python3
 """Document 01 once more, bit by bit: reads a list of calls on standard input and prints a line for each, as oracle/README.md says. It
-shares no text with the port; oracle/make-cases makes the expected lines of the lists of cases with it."""
+shares no text with the port; oracle/make-cases makes the expected lines of the lists of cases with it.
+
+    oracle/model.py < LIST      takes no argument"""
 import re
 import sys
 from functools import partial
@@ -295,6 +297,11 @@ def no_call(operation, arguments, known):
 
 
 def main():
+    if sys.argv[1:] == ["--help"]:
+        sys.exit(print(__doc__))
+    if sys.argv[1:]:
+        print(f'oracle/model.py: it takes no argument, and here is "{sys.argv[1]}"', __doc__, sep="\n", file=sys.stderr)
+        sys.exit(2)
     calls = operations(Model())
     rows = ([int(digits) % 2 ** 64 for digits in re.findall("[0-9]+", text.split("#")[0])] for text in sys.stdin)
     for number, (operation, *arguments) in enumerate(filter(None, rows), 1):

@@ -5,6 +5,7 @@ import signal
 import sys
 import time
 from collections import Counter
+from itertools import takewhile
 from pathlib import Path
 from types import SimpleNamespace
 
@@ -140,7 +141,7 @@ def one(options):
     area = options.id.split('/')[0]
     found = [e for f in edits_in(area) for e in f if e.id == options.id]
     if not found:
-        sys.exit(f'no edit {options.id}')
+        refuse(f'there is no edit {options.id}')
     edit = found[0]
     print(f'{edit.path}:{edit.line}: {edit.context}\n{edit.told()}', flush=True)
     tries.prepare()
@@ -170,22 +171,47 @@ def report():
             print(f'{word}: {r[0]} {r[4]}\n    {r[5]}\n    {r[3]}')
 
 
+def refuse(why):
+    """A command line that is not known: what is wrong, and the comment at the top of sweep/run, which is its usage; nothing is tried."""
+    about = takewhile(lambda line: line.startswith('#'), Path('sweep/run').read_text().split('\n')[1:])
+    print(f'sweep/run: {why}', *(line[2:] for line in about), sep='\n', file=sys.stderr)
+    sys.exit(2)
+
+
+def known(options, words):
+    """Refuses words that say nothing, and crates that there are none of."""
+    most = {'src': 2, 'specs': 2, 'one': 2, 'retry': 1, 'report': 1}.get(options.what)
+    if most is None or (options.list and options.what not in ('src', 'specs')):
+        refuse(f'what is to be {"listed" if options.list else "tried"}: "{options.what}"?')
+    if len(words) > most:
+        refuse(f'"{words[most]}" is a word too many')
+    if options.what in ('src', 'one') and not options.crate:
+        refuse(f'{options.what} of what?')
+    if options.what == 'one' and not re.fullmatch(r'[^/]+/[^:]+:\d+:\d+:\d+', options.id):
+        refuse(f'"{options.id}" is no edit: FILE:LINE:COLUMN:NUMBER')
+    area = options.crate if options.what != 'one' else options.id.split('/')[0].removesuffix('specs').rstrip('.') or 'machine'
+    if options.what in ('src', 'specs', 'one') and not Path(f'crates/{area}/{"specs" if options.what == "specs" else "src"}').is_dir():
+        refuse(f'there is no crate {area}{" with definitions" if options.what == "specs" else ""}')
+
+
 def arguments():
     """The command line."""
-    parser = argparse.ArgumentParser(prog='sweep/run')
-    parser.add_argument('words', nargs='+', help='src CRATE | specs [CRATE] | one ID | retry | list .. | report')
+    parser = argparse.ArgumentParser(prog='sweep/run', add_help=False, allow_abbrev=False)
+    parser.error = refuse
+    parser.add_argument('words', nargs='*', help='src CRATE | specs [CRATE] | one ID | retry | list .. | report')
     parser.add_argument('--from', dest='start', type=int, default=1)
     parser.add_argument('--to', type=int, default=None)
     parser.add_argument('--seed', type=int, default=SEED)
     parser.add_argument('--most', type=int, default=40, help='edits a file')
     parser.add_argument('--again', action='store_true')
     options = parser.parse_args()
-    options.list = options.words[0] == 'list'
+    options.list = options.words[:1] == ['list']
     words = options.words[1:] if options.list else options.words
     options.what = words[0] if words else ''
     options.crate = options.id = words[1] if len(words) > 1 else ''
     if options.what == 'specs':
         options.crate = options.crate or 'machine'
+    known(options, words)
     return options
 
 
@@ -197,8 +223,6 @@ def main():
         one(options)
     elif options.what in ('report', 'retry'):
         {'report': report, 'retry': retry}[options.what]()
-    elif options.what not in ('src', 'specs') or (options.what == 'src' and not options.crate):
-        sys.exit('sweep/run src CRATE | specs [CRATE] | one ID | retry | list .. | report')
     elif options.list:
         for k, e in picked(files_of(options), options):
             print(f'{k} {e.id} {e.told()} in: {e.context}')
