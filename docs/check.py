@@ -4,10 +4,11 @@ Names: in PROMISES.md, DECISIONS.md, CHANGING.md and both READMEs each word in b
 of a tape's text, script or path of the tree, or stands in EXCEPTIONS. `a::b` is looked up part by part, `a_..` as the start of a name, `_b` as the end of one, and
 a word of capitals (`NAME-determined`) stands for anything. Where a page says in which crate or file a name stands, it must stand there:
 
-    machine's `step`      judges' must-fail `refuses_all`      an edit, or a definition, of that crate
+    machine's `step`      judges' must-fail `refuses_all`      visits: `stores_nothing`      an edit, or a definition, of that crate
     must-fail `read_of_0`, `write_of_0`                        edits of any crate
     Calls: `vramPlan`, `unmasked`      Claims `InWindow`       definitions of a file Calls.antt, Claims.antt
 
+A column of a table that is headed Old or Was has names that went, and is passed over.
 Paths: in every page each word that starts with a folder of the tree, and each name of a file by its ending, with or without backticks; a word of capitals stands for any.
 Numbers: COUNTS has, for each, the sentence of the page and how it is counted.
 """
@@ -24,14 +25,12 @@ ENDINGS = "md antt rt rs c h py txt list lines tape edit out".split()
 # Words in backticks that are no names of this tree, each kind with its reason.
 EXCEPTIONS = {
     # words of the languages, and of the kit
-    "requires", "ensures", "bool", "usize", "u8", "u32", "&mut", "self", "enum", "map", "getD", "Option", "rt", "cc", "rustc", "types.Kit", "Bool", "-", "|",
-    "read", "write", "write_all", "#", "Vec", "inner", "Err",
+    "requires", "ensures", "bool", "usize", "&mut", "getD", "Option", "rt", "types.Kit", "Bool", "|", "#",
     # programs that scripts build, and the fields of a must-fail edit
     "test", "oracle", "file:", "old:", "new:",
     # MartyPC's names for what document 01 leaves out, or gives another shape
     "get_state", "get_stats", "parallel", "foreach_plane", "serialize_buf", "linear_cga_buf", "pixel_buf", "pipeline_buf", "debug_ctr", "c4_flipflop", "plane_len",
-    "plane_slice", "update_character_maps", "font_select_enabled", "get_glyph_span", "test_glyph_span", "get_glyph_address", "vga", "graphics_", "micellaneous",
-    "ODD_EVEN_MASK", "rotate_right_u8",
+    "plane_slice", "update_character_maps", "font_select_enabled", "get_glyph_span", "test_glyph_span", "get_glyph_address", "graphics_", "micellaneous",
 }
 # Files that pages name and the tree does not have: MartyPC's own, and those that a reader makes.
 FILES = {"vram.rs", "sequencer.rs", "graphics_controller.rs", "mod.rs", "my_emulator.c", "my_emulator.rs", "draw.txt", "draw.tape"}
@@ -89,7 +88,7 @@ edits = {}
 for path in glob.glob("crates/*/must-fail/*.edit"):
     edits.setdefault(os.path.basename(path)[:-5], set()).add(path.split("/")[1])
 modules = {os.path.splitext(os.path.basename(path))[0] for path in files if path.endswith(".antt")}
-operations = set(re.findall(r"\b[a-z]+(?:-[a-z]+)?\b", read("tape/text-to-tape")))
+operations = {word for text in re.findall(r'split\("([a-z -]+)"', read("tape/text-to-tape")) for word in text.split()} | {"bytes"}
 names = set(defined) | set(crates) | set(edits) | modules | {"target"}
 
 
@@ -153,7 +152,7 @@ def check_names(page, line, text):
                 continue
             if not known(word) and not known(word.lstrip("&")):
                 tell(page, line, f"`{word}` is not in the tree")
-    for crate, must_fail, listed in re.findall(rf"\b(\w+)'s? (must-fail )?({LIST})", text):
+    for crate, must_fail, listed in re.findall(rf"(?:\b(?=\w+')|(?<=[|;] )(?=\w+:))(\w+)(?:'s?|:) (must-fail )?({LIST})", text):
         if crate in crates:
             in_crate(page, line, crate, must_fail, listed)
     for listed in re.findall(rf"(?<!' )(?<!'s )must-fail ({LIST})", text):
@@ -163,6 +162,16 @@ def check_names(page, line, text):
     for module, listed in re.findall(rf"\b([A-Z]\w+):? ({LIST})", text):
         if module in modules:
             in_file(page, line, module, listed)
+
+
+def without_old(rows, text):
+    """A row of a table without the columns headed Old or Was; `rows` are the rows of the table so far."""
+    if not text.startswith("|"):
+        rows.clear()
+        return text
+    rows.append(text)
+    head = [cell.strip().lower() for cell in rows[0].split("|")]
+    return "|".join(cell for at, cell in enumerate(text.split("|")) if at >= len(head) or head[at] not in ("old", "was"))
 
 
 # ---- paths
@@ -279,10 +288,11 @@ def check_crates():
 
 def main():
     for page in PAGES:
-        inside = False
+        inside, rows = False, []
         for number, text in enumerate(read(page).splitlines(), 1):
             if text.startswith("```"):
                 inside = not inside
+            text = without_old(rows, text)
             check_paths(page, number, text)
             if page in NAMED and not inside and not text.startswith("    "):
                 check_names(page, number, text)

@@ -356,7 +356,8 @@ def paired(found):
 
 def main(listing):
     pairs = paired([piece for page in PAGES for piece in pieces(page)])
-    os.makedirs(OUT, exist_ok=True)
+    shutil.rmtree(OUT, ignore_errors=True)
+    os.makedirs(OUT)
     if not listing and not os.path.exists(LIBRARY):
         print(f"pages: {LIBRARY} is not there; `rt staticlib host` makes it")
         return 1
