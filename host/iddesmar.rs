@@ -5,7 +5,8 @@
 //! slices that Rust itself has borrowed, each with its own length, so no call can reach outside them.
 //!
 //! A state is saved as the two records (`record`, plain data with public fields, laid out as in C) and the bytes of `Vram`, and comes back by
-//! `GraphicsController::from_record` and `Sequencer::from_record`. Any record may come: one that no call left is refused, with `Refusal::State`.
+//! `GraphicsController::from_record` and `Sequencer::from_record`. Any record may come: where it holds a value that its registers cannot, every call
+//! but `reset` refuses with `Refusal::State`.
 
 use std::mem::{offset_of, size_of};
 

@@ -193,7 +193,7 @@ fn round_trip(host: &mut Host<'_>) -> bool {
     latched && there && goes_on && same && gc.record() == host.gc.record() && seq.record() == host.seq.record()
 }
 
-/// What no call left is taken all the same, and refused: a selected register that there is not, in either record, until a reset; a plane that there is not.
+/// A record with a selected register that there is not is taken, and refused until a reset; a plane that there is not is refused.
 fn unknown() -> bool {
     let (mut gc, mut seq) = (GraphicsController::new(), Sequencer::new());
     let (fresh, fresh_seq) = (*gc.record(), *seq.record());
