@@ -220,8 +220,8 @@ def all_edits():
 
 
 COUNTS = [
-    ("README.md", r"\((\d+) crates, \d+ wrong edits", lambda: len(crates)),
-    ("README.md", r"\(\d+ crates, (\d+) wrong edits", all_edits),
+    ("README.md", r"There are (\d+) crates to prove", lambda: len(crates)),
+    ("README.md", r"crates to prove and (\d+) wrong edits to try", all_edits),
     ("README.md", r"before the (\d+) lines of proof", lambda: len(read("crates/machine/proofs/Isolation.antt").splitlines())),
     ("README.md", r"on the (\d+) bytes of that tape", lambda: os.path.getsize("tape/examples/document-01.tape")),
     ("host/README.md", r"Each of the (\d+) functions", exported),
