@@ -10,7 +10,8 @@ a word of capitals (`NAME-determined`) stands for anything. Where a page says in
 
 A column of a table that is headed Old or Was has names that went, and is passed over.
 Paths: in every page each word that starts with a folder of the tree, and each name of a file by its ending, with or without backticks; a word of capitals stands for any.
-Numbers: COUNTS has, for each, the sentence of the page and how it is counted.
+Numbers: COUNTS has, for each, the sentence of the page and how it is counted. COST.md's two tables agree, README.md's drawing has every crate, and PROMISES.md's table of functions
+with a `requires` has every one that another crate can name.
 """
 import glob
 import os
@@ -278,6 +279,31 @@ def check_cost():
             tell("docs/COST.md", line_of(text, text.index(f"| {name} |", len(table))), f"{name}: {reached} reached, where the table has {is_now}")
 
 
+def asking():
+    """The functions with a `requires` that other crates can name, as crate::module::name."""
+    found = set()
+    for path in glob.glob("crates/*/src/*.rt"):
+        crate, module = path.split("/")[1], os.path.basename(path)[:-3]
+        library = read(f"crates/{crate}/src/lib.rt") if os.path.exists(f"crates/{crate}/src/lib.rt") else ""
+        for name in re.findall(r"^ *pub fn (\w+)[^{;]*?\)(?: -> [^\n]*)?\n\s*requires", read(path), re.M):
+            if module == "lib" or re.search(rf"pub mod {module};|pub use {module}::{name}\b", library):
+                found.add(f"{crate}::{module}::{name}")
+    return found
+
+
+def check_requires():
+    """PROMISES.md's table of functions with a `requires` has each of them, and no other."""
+    text = read("docs/PROMISES.md")
+    head = "## Functions with a `requires`"
+    listed = set()
+    for cell in re.findall(r"^\| (`[^|]+) \|", text.split(head)[1].split("\n## ")[0], re.M):
+        first, *others = words(cell)
+        listed |= {first} | {first.rsplit("::", 1)[0] + "::" + name for name in others}
+    for name in sorted(listed ^ asking()):
+        why = "is listed, and no public function of that name has a `requires`" if name in listed else "has a `requires` and is not listed"
+        tell("docs/PROMISES.md", line_of(text, text.index(head)), f"{name} {why}")
+
+
 def check_crates():
     """Every crate stands in README's drawing."""
     part = read("README.md").split("## The crates")[1].split("\n## ")[0]
@@ -298,6 +324,7 @@ def main():
                 check_names(page, number, text)
     check_counts(sys.argv[1])
     check_cost()
+    check_requires()
     check_crates()
     for text in wrong:
         print(text)
