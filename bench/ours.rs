@@ -38,7 +38,7 @@ impl Machine for Ours {
     }
 
     fn sum(&self) -> u64 {
-        let planes = (0..4).flat_map(|plane| self.seq.vram.plane(plane));
+        let planes = (0..4).flat_map(|plane| self.seq.vram.plane(plane).unwrap_or(&[]));
         planes.chain(self.seq.vram.picture()).map(|byte| u64::from(*byte)).sum()
     }
 }

@@ -1,6 +1,10 @@
-/* The example of host/README.md: a pixel pattern written as a program would, and shown. host/run compiles it and holds what it prints to the page. */
+/* The example of host/README.md: a pixel pattern written as a program would, and shown. host/run compiles it as C and, where it can, as C++, and holds what
+ * it prints to the page. */
 #include "iddesmar.h"
 
+#ifdef __cplusplus
+extern "C"
+#endif
 int printf(const char *format, ...);
 
 enum { N = 65536 };

@@ -1,9 +1,10 @@
-/* Iddesmar for C: MartyPC's VGA video memory, proved. Link target/staticlib/libhost.a (x86-64 Linux); host/README.md has the rest.
+/* Iddesmar for C11 and C++11: MartyPC's VGA video memory, proved. Link target/staticlib/libhost.a (x86-64 Linux); host/README.md has the rest.
  *
  * Every call takes any input and says what became of it by a number: 0 is done, anything else is a refusal, and then nothing has changed.
  * Memory is lent for the length of a call: four planes of n bytes each, 1 to 65,536, and a picture of 8n bytes, one for each pixel. Each pointer
  * must be good for as many bytes as are said beside it, and the five must overlap neither one another nor a record; the library reads and writes
- * nothing else and keeps nothing. A `bool` must be 0 or 1. */
+ * nothing else and keeps nothing. No pointer may be null, one with a length of 0 included, and that to a record must be aligned as C aligns the
+ * record (4 bytes). A `bool` must be 0 or 1. */
 #ifndef IDDESMAR_H
 #define IDDESMAR_H
 
@@ -137,7 +138,8 @@ IDDESMAR_ASSERT(sizeof(iddesmar_seq_answer) == 20 && offsetof(iddesmar_seq_answe
     const uint8_t *p0, size_t n0, const uint8_t *p1, size_t n1, const uint8_t *p2, size_t n2, const uint8_t *p3, size_t n3, const uint8_t *picture, size_t pixels
 #define IDDESMAR_LENT uint8_t *p0, size_t n0, uint8_t *p1, size_t n1, uint8_t *p2, size_t n2, uint8_t *p3, size_t n3, uint8_t *picture, size_t pixels
 
-/* For a host that keeps its memory in one place: the ten arguments of a call from a pointer to it. */
+/* For a host that keeps its memory in one place: the ten arguments of a call from a pointer to it. The macro evaluates its argument ten times:
+ * hand it a pointer or the address of a variable, and nothing that does something. */
 typedef struct iddesmar_memory {
     uint8_t *planes[4];
     uint8_t *picture;

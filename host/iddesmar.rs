@@ -1,8 +1,12 @@
 //! Iddesmar for Rust: MartyPC's VGA video memory, proved, behind a safe face with MartyPC's own names. `mod iddesmar;` and link
 //! target/staticlib/libhost.a (x86-64 Linux): `rustc --edition 2021 -L target/staticlib ..`. host/README.md has the rest.
 //!
-//! Every call takes any input; what it refuses is an `Err` with the reason, and then nothing has changed. The library is handed slices that Rust
-//! itself has borrowed, each with its own length, so no call can reach outside them.
+//! Every call takes any input and none panics; what it refuses is an `Err` with the reason, and then nothing has changed. The library is handed
+//! slices that Rust itself has borrowed, each with its own length, so no call can reach outside them.
+//!
+//! A state is saved as the two records (`record`, plain data with public fields, laid out as in C) and the bytes of `Vram`, and comes back by
+//! `GraphicsController::from_record` and `Sequencer::from_record`. Any record may come: where it holds a value that its registers cannot, every call
+//! but `reset` refuses with `Refusal::State`.
 
 use std::mem::{offset_of, size_of};
 
@@ -31,6 +35,7 @@ impl Refusal {
         self as u8
     }
 
+    /// A refusal by its number. No call answers another number than these, by its contract: the last row has 9 alone.
     fn of(number: u8) -> Self {
         match number {
             1 => Refusal::Memory,
@@ -39,8 +44,7 @@ impl Refusal {
             4 => Refusal::Plane,
             5 => Refusal::Place,
             6 => Refusal::State,
-            9 => Refusal::Shift,
-            _ => unreachable!("no call has this refusal"),
+            _ => Refusal::Shift,
         }
     }
 }
@@ -149,9 +153,9 @@ impl Answer {
         judged(self.number, self.value != 0)
     }
 
-    /// The place of an enum's value in its order.
-    fn chosen<T: Copy>(self, values: &[T]) -> Result<T, Refusal> {
-        judged(self.number, values[self.value as usize])
+    /// The enum's value at a place in its order. A call answers a place below N, by its contract; the remainder leaves nothing to panic.
+    fn chosen<T: Copy, const N: usize>(self, values: [T; N]) -> Result<T, Refusal> {
+        judged(self.number, values[self.value as usize % N])
     }
 }
 
@@ -322,8 +326,9 @@ impl<B: AsRef<[u8]> + AsMut<[u8]>> Vram<B> {
         [a.as_mut(), b.as_mut(), c.as_mut(), d.as_mut(), self.picture.as_mut()]
     }
 
-    pub fn plane(&self, plane: usize) -> &[u8] {
-        self.planes[plane].as_ref()
+    /// A plane's bytes; of a number above 3 `Refusal::Plane`, as from every call by plane.
+    pub fn plane(&self, plane: usize) -> Result<&[u8], Refusal> {
+        self.planes.get(plane).map(B::as_ref).ok_or(Refusal::Plane)
     }
 
     pub fn picture(&self) -> &[u8] {
@@ -397,9 +402,15 @@ impl Default for Sequencer {
 impl<B: AsRef<[u8]> + AsMut<[u8]>> Sequencer<B> {
     /// A sequencer at its start, over memory that is handed in.
     pub fn over(vram: Vram<B>) -> Self {
-        Sequencer { record: asked!(iddesmar_seq_new()), vram }
+        Sequencer::from_record(asked!(iddesmar_seq_new()), vram)
     }
 
+    /// A sequencer as it was when its record was taken, over the memory of then.
+    pub fn from_record(record: SequencerRecord, vram: Vram<B>) -> Self {
+        Sequencer { record, vram }
+    }
+
+    /// What is to be saved of it, besides its memory.
     pub fn record(&self) -> &SequencerRecord {
         &self.record
     }
@@ -497,9 +508,15 @@ impl Default for GraphicsController {
 
 impl GraphicsController {
     pub fn new() -> Self {
-        GraphicsController { record: asked!(iddesmar_gc_new()) }
+        GraphicsController::from_record(asked!(iddesmar_gc_new()))
     }
 
+    /// A controller as it was when its record was taken.
+    pub fn from_record(record: ControllerRecord) -> Self {
+        GraphicsController { record }
+    }
+
+    /// What is to be saved of it.
     pub fn record(&self) -> &ControllerRecord {
         &self.record
     }
@@ -518,17 +535,17 @@ impl GraphicsController {
 
     pub fn memory_map(&self) -> Result<MemoryMap, Refusal> {
         use MemoryMap::*;
-        asked!(iddesmar_gc_memory_map(self.record)).chosen(&[A0000_128k, A0000_64K, B0000_32K, B8000_32K])
+        asked!(iddesmar_gc_memory_map(self.record)).chosen([A0000_128k, A0000_64K, B0000_32K, B8000_32K])
     }
 
     pub fn odd_even(&self) -> Result<OddEvenModeComplement, Refusal> {
         use OddEvenModeComplement::*;
-        asked!(iddesmar_gc_odd_even(self.record)).chosen(&[Sequential, OddEven])
+        asked!(iddesmar_gc_odd_even(self.record)).chosen([Sequential, OddEven])
     }
 
     pub fn shift_mode(&self) -> Result<ShiftMode, Refusal> {
         use ShiftMode::*;
-        asked!(iddesmar_gc_shift_mode(self.record)).chosen(&[Standard, CGACompatible, Chain4, Unused])
+        asked!(iddesmar_gc_shift_mode(self.record)).chosen([Standard, CGACompatible, Chain4, Unused])
     }
 
     pub fn read_address(&self) -> Result<u8, Refusal> {

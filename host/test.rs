@@ -65,7 +65,7 @@ impl Host<'_> {
         all.extend([seq.clock_divisor, seq.char_clock]);
         all.extend(gc.latches.map(u32::from));
         all.extend([stats.mode_0_writes, stats.mode_1_writes, stats.mode_2_writes, stats.mode_3_writes, stats.mode_0_reads, stats.mode_1_reads]);
-        all.extend((0..4).flat_map(|plane| sum(vram.plane(plane))));
+        all.extend((0..4).flat_map(|plane| sum(vram.plane(plane).unwrap_or(&[]))));
         all.extend(sum(vram.picture()));
         format!("0 {}", all.iter().map(u32::to_string).collect::<Vec<_>>().join(" "))
     }
@@ -162,6 +162,51 @@ fn refusals() -> bool {
     })
 }
 
+/// The memory of a sequencer, copied.
+fn copied<B: AsRef<[u8]> + AsMut<[u8]>>(vram: &Vram<B>) -> Vram {
+    let plane = |number: usize| vram.plane(number).unwrap_or(&[]).to_vec();
+    Vram::over([plane(0), plane(1), plane(2), plane(3)], vram.picture().to_vec())
+}
+
+/// A state that is saved and restored goes on as the one that it was taken from: the same answers, then the same records and memory.
+fn round_trip(host: &mut Host<'_>) -> bool {
+    let latched = (0..4).all(|plane| host.seq.vram.write_u8(plane, 0, 17 * (plane as u8 + 1)).is_ok())
+        && host.gc.write_address(6).is_ok()
+        && host.gc.write_data(5).is_ok()
+        && host.gc.cpu_read_u8(&host.seq, 0xA0000, PageSelect::LowPage).is_ok()
+        && host.gc.record().latches == [17, 34, 51, 68];
+    let mut gc = GraphicsController::from_record(*host.gc.record());
+    let mut seq = Sequencer::from_record(*host.seq.record(), copied(&host.seq.vram));
+    let there = gc.record() == host.gc.record() && seq.record() == host.seq.record();
+    let goes_on = (0..64).all(|i| {
+        let (byte, address) = ((37 * i) as u8, 0xA0000 + 4 * i);
+        gc.write_address(byte % 9) == host.gc.write_address(byte % 9)
+            && gc.write_data(byte) == host.gc.write_data(byte)
+            && seq.write_address(byte % 5) == host.seq.write_address(byte % 5)
+            && seq.write_data(byte) == host.seq.write_data(byte)
+            && gc.cpu_write_u8(&mut seq, address, PageSelect::LowPage, byte) == host.gc.cpu_write_u8(&mut host.seq, address, PageSelect::LowPage, byte)
+            && gc.cpu_read_u8(&seq, address, PageSelect::LowPage) == host.gc.cpu_read_u8(&host.seq, address, PageSelect::LowPage)
+            && gc.serialize(&seq, i) == host.gc.serialize(&host.seq, i)
+            && seq.poll_clock_change() == host.seq.poll_clock_change()
+    });
+    let same = (0..4).all(|plane| seq.vram.plane(plane) == host.seq.vram.plane(plane)) && seq.vram.picture() == host.seq.vram.picture();
+    latched && there && goes_on && same && gc.record() == host.gc.record() && seq.record() == host.seq.record()
+}
+
+/// A record with a selected register that there is not is taken, and refused until a reset; a plane that there is not is refused.
+fn unknown() -> bool {
+    let (mut gc, mut seq) = (GraphicsController::new(), Sequencer::new());
+    let (fresh, fresh_seq) = (*gc.record(), *seq.record());
+    gc = GraphicsController::from_record(iddesmar::ControllerRecord { register_selected: 9, ..fresh });
+    let refused = gc.write_data(5) == Err(Refusal::State) && gc.memory_map() == Err(Refusal::State) && gc.record().register_selected == 9;
+    gc.reset();
+    seq = Sequencer::from_record(iddesmar::SequencerRecord { register_selected: 6, ..fresh_seq }, seq.vram);
+    let refused_too = seq.clock() == Err(Refusal::State) && gc.cpu_read_u8(&seq, 0xA0000, PageSelect::LowPage) == Err(Refusal::State);
+    seq.reset();
+    let no_plane = seq.vram.plane(3).map(<[u8]>::len) == Ok(65536) && seq.vram.plane(4) == Err(Refusal::Plane) && seq.vram.plane(usize::MAX) == Err(Refusal::Plane);
+    refused && refused_too && no_plane && *gc.record() == fresh && *seq.record() == fresh_seq
+}
+
 fn run() -> i32 {
     let mut lengths = [65536, 65536, 65536, 65536, 524288].map(|n| vec![0u8; n]);
     let [p0, p1, p2, p3, picture] = lengths.each_mut().map(Vec::as_mut_slice);
@@ -178,7 +223,11 @@ fn run() -> i32 {
         writeln!(out, "{line_number} {operation} {}", host.call(*operation, &x)).expect("a line out");
     }
     out.flush().expect("lines out");
-    i32::from(!refusals())
+    let tried = [("refusals", refusals()), ("a saved state restored", round_trip(&mut host)), ("unknown records and planes", unknown())];
+    for (what, _) in tried.iter().filter(|(_, holds)| !holds) {
+        eprintln!("test-rust: {what}: not as it should be");
+    }
+    i32::from(tried.iter().any(|(_, holds)| !holds))
 }
 
 #[allow(unsafe_code)]
