@@ -307,7 +307,8 @@ def two_prices(piece):
     text = open("crates/machine/proofs/Example.antt").read()
     for line in piece.lines:
         name, *pixels = line.split()
-        if not re.search(rf"^{name}-says :.*{' ∷ '.join(pixels)} ∷ \[\]", text, re.M):
+        stated = re.search(rf"^{name}-says :(.*?)^{name}-says =", text, re.M | re.S)
+        if not stated or " ∷ ".join([*pixels, "[]"]) not in " ".join(stated[1].split()):
             piece.fails(f"Example.antt does not say these pixels of {name}")
 
 
