@@ -10,8 +10,8 @@ a word of capitals (`NAME-determined`) stands for anything. Where a page says in
 
 A column of a table that is headed Old or Was has names that went, and is passed over.
 Paths: in every page each word that starts with a folder of the tree, and each name of a file by its ending, with or without backticks; a word of capitals stands for any.
-Numbers: COUNTS has, for each, the sentence of the page and how it is counted. COST.md's two tables agree, README.md's drawing has every crate, and PROMISES.md's table of functions
-with a `requires` has every one that another crate can name.
+Numbers: COUNTS has, for each, the sentence of the page and how it is counted. COST.md's two tables agree, README.md's drawing has every crate, PROMISES.md's table of functions
+with a `requires` has every one that another crate can name, and its table of the harness every crate whose public functions have no contract. No two definitions of specs/ share a name.
 """
 import glob
 import os
@@ -304,6 +304,41 @@ def check_requires():
         tell("docs/PROMISES.md", line_of(text, text.index(head)), f"{name} {why}")
 
 
+FUNCTION = re.compile(r"^ *pub (?:extern \"C\" )?fn (\w+)(.*?)\{$", re.M | re.S)
+
+
+def silent():
+    """The crates with public functions that have no `ensures`."""
+    found = set()
+    for path in glob.glob("crates/*/src/**/*.rt", recursive=True):
+        if any("ensures {" not in head for _, head in FUNCTION.findall(read(path))):
+            found.add(path.split("/")[1])
+    return found
+
+
+def check_harness():
+    """PROMISES.md's table of the harness has each crate whose public functions have no contract, and no other."""
+    text = read("docs/PROMISES.md")
+    head = "## A harness, without contracts"
+    listed = set(re.findall(r"`(\w+)`", " ".join(re.findall(r"^\| (`[^|]+) \|", text.split(head)[1].split("\n## ")[0], re.M))))
+    for crate in sorted(listed ^ silent()):
+        why = "has a contract for each public function" if crate in listed else "has a public function without `ensures`"
+        tell("docs/PROMISES.md", line_of(text, text.index(head)), f"the crate {crate} {why}")
+
+
+def check_twice():
+    """One meaning for a name: no definition of specs/ has the name of another."""
+    for name, paths in sorted(defined.items()):
+        places = sorted(path for path in paths if re.match(r"crates/\w+/specs/.*\.antt$", path) and name in public(path))
+        if len(places) > 1:
+            tell(places[1], 1, f"defines `{name}`, and so does {places[0]}")
+
+
+def public(path):
+    """The public definitions of a file of specs/, fields and constructors left out."""
+    return set(re.findall(r"^(?:unfoldable |abbrev )?pub (?:data |record )?([^\s(){}:]+)", read(path), re.M))
+
+
 def check_crates():
     """Every crate stands in README's drawing."""
     part = read("README.md").split("## The crates")[1].split("\n## ")[0]
@@ -325,6 +360,8 @@ def main():
     check_counts(sys.argv[1])
     check_cost()
     check_requires()
+    check_harness()
+    check_twice()
     check_crates()
     for text in wrong:
         print(text)
