@@ -7,7 +7,7 @@ use lib.ListN.{replicate}
 use Rattle.machine.specs.Calls.{writeU8, gcReset, cpuRead, cpuPeek, cpuWrite, serialize}
 use Rattle.machine.specs.Step.{Call, vram, graphics, cpu}
 use Rattle.machine.proofs.Computed.{computed}
-use Rattle.machine.proofs.Worked.{start, gcTo, seqTo, says, leads, each, tops, painted, firsts, five}
+use Rattle.machine.proofs.Worked.{start, gcTo, seqTo, says, leads, each, tops, painted, firsts, case11}
 
 -- the six counters after calls
 counters : List Call → List ℕ
@@ -20,7 +20,7 @@ unfolding gcTo
 accessed mode w r = gcTo 5 mode ++ (replicate w (cpu (cpuWrite 0xA0000 false 0)) ++ replicate r (cpu (cpuRead 0xA0000 false)))
 
 pub accesses : List (List ℕ)
-unfolding says tops painted counters accessed each gcTo seqTo leads firsts five
+unfolding says tops painted counters accessed each gcTo seqTo leads firsts case11
 accesses =
     -- the windows' other ends
     leads 0 (0x9FFFF ∷ 0xA0000 ∷ 0xC0000 ∷ [])
@@ -53,7 +53,7 @@ accesses =
     ∷ says painted (cpu (cpuRead 0xB0000 false) ∷ cpu (cpuRead 0x9FFFF false) ∷ cpu (cpuRead 0xA0008 false) ∷ [])
     ∷ each (λ x. tops (painted ++ (gcTo 5 1 ++ (cpu (cpuRead 0xA0001 false) ∷ cpu (cpuRead x false) ∷ cpu (cpuWrite 0xA0000 false 0xF0) ∷ [])))) (0xB0000 ∷ 0x9FFFF ∷ 0xA0008 ∷ [])
     -- case 11 over a plane 3 that holds C3: Map Mask 7 leaves it alone, and bit 3 of the pixels is its
-    ∷ firsts (vram (writeU8 3 0 0xC3) ∷ five)
+    ∷ firsts (vram (writeU8 3 0 0xC3) ∷ case11)
     -- each access raises its mode's counter, no peek, no show and no refused access any
     ∷ counters (gcTo 6 4 ++ (accessed 0 1 5 ++ (accessed 1 2 0 ++ (accessed 2 3 0 ++ (accessed 3 4 0 ++ (accessed 8 0 6 ++ (cpu (cpuPeek 0xA0000 false) ∷ cpu (serialize 0) ∷ cpu (cpuRead 0xB0000 false) ∷ cpu (cpuWrite 0xA0008 false 0) ∷ [])))))))
     ∷ []

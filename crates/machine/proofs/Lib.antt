@@ -8,7 +8,10 @@ pub mod Laws
 pub mod Isolation
 pub mod NoPrice
 pub mod Questions
+pub mod AlikeStates
+pub mod EveryKind
 pub mod Example
+pub mod ExampleLot
 pub mod Refusals
 pub mod Records
 pub mod Counters

@@ -109,15 +109,15 @@ asked-tells (asksPeek e) q = q e
 -- ---- a run whose replies tell nothing of plane k
 
 -- whether a reply tells nothing of plane k
-silent : ℕ → Reply → Bool
-silent k (known v) = true
-silent k (byteAt p o) = not (eqb p k)
-silent k (compare care colour) = eqb (bit k care) 0
-silent k (pixelAt j) = true
-silent k (pixelsAt j) = true
+isSilent : ℕ → Reply → Bool
+isSilent k (known v) = true
+isSilent k (byteAt p o) = not (eqb p k)
+isSilent k (compare care colour) = eqb (bit k care) 0
+isSilent k (pixelAt j) = true
+isSilent k (pixelsAt j) = true
 
-silent-told : (k : ℕ) (r : Reply) → silent k r ≡ true → Silent k r
-unfolding silent Silent
+silent-told : (k : ℕ) (r : Reply) → isSilent k r ≡ true → Silent k r
+unfolding isSilent Silent
 silent-told k (known v) e = tt
 silent-told k (byteAt p o) e = eqb-false p k (not-true _ e)
 silent-told k (compare care colour) e = eqb-true (bit k care) 0 e
@@ -126,13 +126,13 @@ silent-told k (pixelsAt j) e = tt
 
 -- whether no reply of a run tells of plane k
 unfoldable pub quiet : ℕ → State → List Call → Bool
-unfolding silent replyOf
+unfolding isSilent replyOf
 quiet k s [] = true
-quiet k s (c ∷ cs) = silent k (replyOf s c) && quiet k (step s c .next) cs
+quiet k s (c ∷ cs) = isSilent k (replyOf s c) && quiet k (step s c .next) cs
 
 -- such a run keeps the premise
 pub quiet-obeys : (k : ℕ) (cs : List Call) (s : State) → quiet k s cs ≡ true → Along (Obeys k) s cs
-unfolding quiet silent replyOf Along
+unfolding quiet isSilent replyOf Along
 quiet-obeys k [] s e = tt
 quiet-obeys k (c ∷ cs) s e =
     let h = both _ _ e in

@@ -26,7 +26,7 @@ use Rattle.machine.specs.Calls.{DirectCall, seqCpuReadU8, seqPeekU8, seq
 use Rattle.machine.specs.Calls.{GraphicsCall, gcReset, gcChain, gcChain4, gcMemoryMap, gcOddEven, gcShiftMode, gcReadAddress, gcReadData, gcWriteAddress, gcWriteData, gcMapAddress, gcNumberOf, gcNext}
 use Rattle.machine.specs.Calls.{CpuCall, cpuRead, cpuPeek, cpuWrite, serialize, cpuPlan}
 use Rattle.machine.specs.Step.{sequencerStep, graphicsStep, Device, cpuStep, State, Call, vram, sequencer, direct, graphics, cpu, step, run}
-use Rattle.machine.specs.Claims.{Check, RightGc, RightSeq, vramChecks, sequencerChecks, directChecks, graphicsChecks, cpuChecks, checks, Given, done, here, later, RightRecords, started}
+use Rattle.machine.specs.Claims.{Check, RightGc, RightSeq, vramChecks, sequencerChecks, directChecks, graphicsChecks, cpuChecks, checks, Given, done, here, later, RightRecords, atStart}
 use Rattle.machine.proofs.Laws.{both}
 use Rattle.machine.proofs.Refusals.{refused-exactly}
 
@@ -129,34 +129,34 @@ records-stay s (cpu c) h =
     record { gc = answered-keeps (λ (d : Device). RightGc (d .gc .registers)) (cpuPlan (s .gc .registers) (s .seq) (shape (s .memory)) c .ask .number) _ _ _ (h .gc) (h .gc); seq = h .seq }
 
 -- the starts are such
-pub starts-right : (m : Memory) → RightRecords (started m)
+pub starts-right : (m : Memory) → RightRecords (atStart m)
 starts-right m = record { gc = fresh-gc-right; seq = fresh-seq-right }
 
 -- ---- right records are not refused 6
 
 -- whether checks look for other refusals alone
-others : List Check → Bool
-others [] = true
-others (c ∷ cs) = not (eqb 6 (c .number)) && others cs
+notSix : List Check → Bool
+notSix [] = true
+notSix (c ∷ cs) = not (eqb 6 (c .number)) && notSix cs
 
 -- checks of which none fails with 6: none looks for it, or the first does and is met
 data Passed : List Check → Type 1 where
-  without : {cs : List Check} → others cs ≡ true → Passed cs
-  met : {c : Check} {cs : List Check} → c .right → others cs ≡ true → Passed (c ∷ cs)
+  without : {cs : List Check} → notSix cs ≡ true → Passed cs
+  met : {c : Check} {cs : List Check} → c .right → notSix cs ≡ true → Passed (c ∷ cs)
 
-others-not-6 : (cs : List Check) → others cs ≡ true → Given cs 6 → ⊥
-unfolding others
-others-not-6 [] o (done e) = omega arith
-others-not-6 (c ∷ cs) o (here q e) = eqb-false 6 (c .number) (not-true _ (both (not (eqb 6 (c .number))) (others cs) o .0)) e
-others-not-6 (c ∷ cs) o (later p g) = others-not-6 cs (both (not (eqb 6 (c .number))) (others cs) o .1) g
+no-six-given : (cs : List Check) → notSix cs ≡ true → Given cs 6 → ⊥
+unfolding notSix
+no-six-given [] o (done e) = omega arith
+no-six-given (c ∷ cs) o (here q e) = eqb-false 6 (c .number) (not-true _ (both (not (eqb 6 (c .number))) (notSix cs) o .0)) e
+no-six-given (c ∷ cs) o (later p g) = no-six-given cs (both (not (eqb 6 (c .number))) (notSix cs) o .1) g
 
 passed-not-6 : {cs : List Check} → Passed cs → Given cs 6 → ⊥
-passed-not-6 (without {cs} o) g = others-not-6 cs o g
+passed-not-6 (without {cs} o) g = no-six-given cs o g
 passed-not-6 (met r o) (here q e) = q r
-passed-not-6 (met {c} {cs} r o) (later p g) = others-not-6 cs o g
+passed-not-6 (met {c} {cs} r o) (later p g) = no-six-given cs o g
 
 vram-passed : (m : Memory) (c : VramCall) → Passed (vramChecks m c)
-unfolding others vramChecks
+unfolding notSix vramChecks
 vram-passed m (readU8 p o) = without refl
 vram-passed m (peekU8 p o) = without refl
 vram-passed m (readGlyph o) = without refl
@@ -170,7 +170,7 @@ vram-passed m (deplane o) = without refl
 
 module _ (s : Sequencer) (h : RightSeq s) where
   sequencer-passed : (c : SequencerCall) → Passed (sequencerChecks s c)
-  unfolding others sequencerChecks
+  unfolding notSix sequencerChecks
   sequencer-passed seqReset = without refl
   sequencer-passed seqClock = met h refl
   sequencer-passed seqSetClockChangePending = met h refl
@@ -181,7 +181,7 @@ module _ (s : Sequencer) (h : RightSeq s) where
   sequencer-passed (seqWriteData x) = met h refl
 
   direct-passed : (m : Memory) (c : DirectCall) → Passed (directChecks s m c)
-  unfolding others directChecks
+  unfolding notSix directChecks
   direct-passed m (seqCpuReadU8 p o a) = met h refl
   direct-passed m (seqPeekU8 p o a) = met h refl
   direct-passed m (seqGcReadU8 p o a) = met h refl
@@ -193,7 +193,7 @@ module _ (s : Sequencer) (h : RightSeq s) where
 
 module _ (r : GraphicsRegisters) (h : RightGc r) where
   graphics-passed : (c : GraphicsCall) → Passed (graphicsChecks r c)
-  unfolding others graphicsChecks
+  unfolding notSix graphicsChecks
   graphics-passed gcReset = without refl
   graphics-passed gcChain = met h refl
   graphics-passed gcChain4 = met h refl
@@ -207,23 +207,23 @@ module _ (r : GraphicsRegisters) (h : RightGc r) where
   graphics-passed (gcMapAddress x page) = met h refl
 
 cpu-passed : (r : GraphicsRegisters) (s : Sequencer) (h : RightGc r × RightSeq s) (m : Memory) (c : CpuCall) → Passed (cpuChecks r s m c)
-unfolding others cpuChecks
+unfolding notSix cpuChecks
 cpu-passed r s h m (cpuRead x page) = met h refl
 cpu-passed r s h m (cpuPeek x page) = met h refl
 cpu-passed r s h m (cpuWrite x page v) = met h refl
 cpu-passed r s h m (serialize o) = met h refl
 
-passed : (s : State) (c : Call) → RightRecords s → Passed (checks s c)
+checks-passed : (s : State) (c : Call) → RightRecords s → Passed (checks s c)
 unfolding checks
-passed s (vram c) h = vram-passed (s .memory) c
-passed s (sequencer c) h = sequencer-passed (s .seq) (h .seq) c
-passed s (direct c) h = direct-passed (s .seq) (h .seq) (s .memory) c
-passed s (graphics c) h = graphics-passed (s .gc .registers) (h .gc) c
-passed s (cpu c) h = cpu-passed (s .gc .registers) (s .seq) (h .gc, h .seq) (s .memory) c
+checks-passed s (vram c) h = vram-passed (s .memory) c
+checks-passed s (sequencer c) h = sequencer-passed (s .seq) (h .seq) c
+checks-passed s (direct c) h = direct-passed (s .seq) (h .seq) (s .memory) c
+checks-passed s (graphics c) h = graphics-passed (s .gc .registers) (h .gc) c
+checks-passed s (cpu c) h = cpu-passed (s .gc .registers) (s .seq) (h .gc, h .seq) (s .memory) c
 
 -- a call that is handed right records is not answered 6
 pub right-not-6 : (s : State) (c : Call) → RightRecords s → step s c .answer .number ≢ 6
-right-not-6 s c h e = passed-not-6 (passed s c h) (refused-exactly s c 6 .0 e)
+right-not-6 s c h e = passed-not-6 (checks-passed s c h) (refused-exactly s c 6 .0 e)
 
 -- ---- and so no run from the starts is ever answered 6
 
@@ -233,5 +233,5 @@ run-not-6 [] s h a i e = List·Memᴰ·not-nil i
 run-not-6 (c ∷ cs) s h a (List·Memᴰ·head f) e = right-not-6 s c h (ap (λ (b : Said). b .number) (sym f) ∙ e)
 run-not-6 (c ∷ cs) s h a (List·Memᴰ·tail i) e = run-not-6 cs (step s c .next) (records-stay s c h) a i e
 
-pub never-6 : (m : Memory) (cs : List Call) (a : Said) → List·Memᴰ a (run (started m) cs .answers) → a .number ≢ 6
-never-6 m cs = run-not-6 cs (started m) (starts-right m)
+pub never-6 : (m : Memory) (cs : List Call) (a : Said) → List·Memᴰ a (run (atStart m) cs .answers) → a .number ≢ 6
+never-6 m cs = run-not-6 cs (atStart m) (starts-right m)

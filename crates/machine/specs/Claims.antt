@@ -196,8 +196,8 @@ pub record RightRecords (s : State) : Type 0 where
   pub seq : RightSeq (s .seq)
 
 -- both register sets at their start, whatever the memory
-abbrev pub started : Memory → State
-started m = state freshGc freshSeq m
+abbrev pub atStart : Memory → State
+atStart m = state freshGc freshSeq m
 
 -- ---- `counters-sum`: the accepted reads and writes of the processor since a reset
 
