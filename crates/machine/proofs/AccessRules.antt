@@ -4,10 +4,10 @@ use mathlib.Core.Path.{_≡_, refl}
 use mathlib.Core.Bool.{false}
 use mathlib.Core.List.{List, [], _∷_, _++_}
 use lib.ListN.{replicate}
-use Rattle.machine.specs.Calls.{gcReset, cpuRead, cpuPeek, cpuWrite, serialize}
-use Rattle.machine.specs.Step.{Call, graphics, cpu}
+use Rattle.machine.specs.Calls.{writeU8, gcReset, cpuRead, cpuPeek, cpuWrite, serialize}
+use Rattle.machine.specs.Step.{Call, vram, graphics, cpu}
 use Rattle.machine.proofs.Computed.{computed}
-use Rattle.machine.proofs.Worked.{start, gcTo, seqTo, says, leads, each, tops, painted}
+use Rattle.machine.proofs.Worked.{start, gcTo, seqTo, says, leads, each, tops, painted, firsts, case11}
 
 -- the six counters after calls
 counters : List Call → List ℕ
@@ -20,7 +20,7 @@ unfolding gcTo
 accessed mode w r = gcTo 5 mode ++ (replicate w (cpu (cpuWrite 0xA0000 false 0)) ++ replicate r (cpu (cpuRead 0xA0000 false)))
 
 pub accesses : List (List ℕ)
-unfolding says tops painted counters accessed each gcTo seqTo leads
+unfolding says tops painted counters accessed each gcTo seqTo leads firsts case11
 accesses =
     -- the windows' other ends
     leads 0 (0x9FFFF ∷ 0xA0000 ∷ 0xC0000 ∷ [])
@@ -49,6 +49,8 @@ accesses =
     ∷ says (painted ++ gcTo 4 3) (cpu (cpuPeek 0xA0000 false) ∷ cpu (cpuPeek 0xA0001 false) ∷ [])
     -- `reset` clears the latches too
     ∷ tops (painted ++ (cpu (cpuRead 0xA0000 false) ∷ graphics gcReset ∷ (gcTo 6 4 ++ (gcTo 5 1 ++ (cpu (cpuWrite 0xA0001 false 0xF0) ∷ [])))))
+    -- case 11 over a plane 3 that holds C3: Map Mask 7 leaves it alone, and bit 3 of the pixels is its
+    ∷ firsts (vram (writeU8 3 0 0xC3) ∷ case11)
     -- each access raises its mode's counter, no peek and no show any
     ∷ counters (gcTo 6 4 ++ (accessed 0 1 5 ++ (accessed 1 2 0 ++ (accessed 2 3 0 ++ (accessed 3 4 0 ++ (accessed 8 0 6 ++ (cpu (cpuPeek 0xA0000 false) ∷ cpu (serialize 0) ∷ [])))))))
     ∷ []
@@ -77,9 +79,31 @@ accessesSaid =
     ∷ (0x11 ∷ 0 ∷ 0x22 ∷ 0 ∷ 0x44 ∷ 0 ∷ 0x88 ∷ 0 ∷ [])
     ∷ (0 ∷ 0x11 ∷ 0 ∷ 1 ∷ [])
     ∷ (0x11 ∷ 0 ∷ 0x22 ∷ 0 ∷ 0x44 ∷ 0 ∷ 0x88 ∷ 0 ∷ [])
+    ∷ (0xFF ∷ 0x00 ∷ 0xFF ∷ 0xC3 ∷ 0xD ∷ 0xD ∷ 5 ∷ 5 ∷ 5 ∷ 5 ∷ 0xD ∷ 0xD ∷ [])
     ∷ (1 ∷ 2 ∷ 3 ∷ 4 ∷ 5 ∷ 6 ∷ [])
     ∷ []
 
 pub access-rules : accesses ≡ accessesSaid
 unfolding accesses accessesSaid
 access-rules = refl
+
+-- ---- refused accesses, two by 2 and one by 3: what a refusal leaves as it was
+
+pub refusedAccesses : List (List ℕ)
+unfolding says tops painted counters accessed each gcTo
+refusedAccesses =
+    -- a refused read answers 0
+    says painted (cpu (cpuRead 0xB0000 false) ∷ cpu (cpuRead 0x9FFFF false) ∷ cpu (cpuRead 0xA0008 false) ∷ [])
+    -- it loads no latch: mode 1 stores those of the read before it
+    ∷ each (λ x. tops (painted ++ (gcTo 5 1 ++ (cpu (cpuRead 0xA0001 false) ∷ cpu (cpuRead x false) ∷ cpu (cpuWrite 0xA0000 false 0xF0) ∷ [])))) (0xB0000 ∷ 0x9FFFF ∷ 0xA0008 ∷ [])
+    -- no refused access raises a counter
+    ∷ counters (gcTo 6 4 ++ (accessed 0 1 1 ++ (cpu (cpuRead 0xB0000 false) ∷ cpu (cpuWrite 0x9FFFF false 0) ∷ cpu (cpuRead 0xA0008 false) ∷ cpu (cpuWrite 0xA0008 false 0) ∷ [])))
+    ∷ []
+
+pub refused-accesses : refusedAccesses
+    ≡ (2 ∷ 0 ∷ 2 ∷ 0 ∷ 3 ∷ 0 ∷ [])
+    ∷ (1 ∷ 1 ∷ 2 ∷ 2 ∷ 4 ∷ 4 ∷ 8 ∷ 8 ∷ 1 ∷ 1 ∷ 2 ∷ 2 ∷ 4 ∷ 4 ∷ 8 ∷ 8 ∷ 1 ∷ 1 ∷ 2 ∷ 2 ∷ 4 ∷ 4 ∷ 8 ∷ 8 ∷ [])
+    ∷ (1 ∷ 0 ∷ 0 ∷ 0 ∷ 1 ∷ 0 ∷ [])
+    ∷ []
+unfolding refusedAccesses
+refused-accesses = refl

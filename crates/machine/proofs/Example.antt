@@ -1,203 +1,198 @@
--- The theorems say something: a label painted twice over different prices. Plane 3 differs and changes, the premise of `isolation` holds, and what each run
--- answers is computed. Then the other theorems on the same run.
-use Prim.Native.Nat.{ℕ, zero, suc, _/_, _%_}
+-- The theorems say something: a label painted twice over different prices, by a run that has every kind of call. Plane 3 differs and changes, the premise of
+-- `isolation` holds, and what each run answers is computed. Then the other theorems on the same run.
+use Prim.Native.Nat.{ℕ, _/_, _%_}
 use native.Mathlib.Omega.{arith}
-use mathlib.Core.Logic.{_≢_}
-use mathlib.Core.Path.{_≡_, refl, sym, _∙_}
-use mathlib.Core.Bool.{false}
+use mathlib.Core.Path.{_≡_, refl}
+use mathlib.Core.Bool.{true, false}
 use mathlib.Core.List.{List, [], _∷_, _++_}
-use lib.ListN.{length, getD, replicate, drop}
+use lib.ListN.{getD, replicate}
 use Rattle.bits.specs.Bit.{bit, ofBits}
-use Rattle.bits.proofs.Laws.{bit-high}
 use Rattle.bits.proofs.Decide.{agree1}
-use Rattle.machine.specs.Memory.{Memory, mem, plane}
-use Rattle.machine.specs.Answers.{one, part, said}
-use Rattle.machine.specs.Graphics.{gcOf}
-use Rattle.types.specs.Start.{freshGc, freshSeq}
-use Rattle.machine.specs.Deeds.{latch, pixelOf}
-use Rattle.machine.specs.Calls.{SequencerCall, GraphicsCall, readU8, seqWriteAddress, seqWriteData, gcWriteAddress, gcWriteData, cpuRead, cpuPeek, cpuWrite, serialize}
-use Rattle.machine.specs.Step.{State, state, Call, vram, sequencer, graphics, cpu}
-use Rattle.machine.specs.Isolation.{Agree, Both, none, more, AlikeLatches, Alike, NotFrom, vramNotFrom, cpuNotFrom, selectedNotFrom, ComparesWithout, cpuWithout, comparedWithout, NoPeek, cpuNoPeek, Obeys, Along, Throughout}
+use Rattle.machine.specs.Memory.{Memory, mem}
+use Rattle.machine.specs.Answers.{one, two, Said, said}
+use Rattle.machine.specs.Deeds.{pixelOf}
+use Rattle.machine.specs.Calls.{readU8, peekU8, readGlyph, readLinear, serializeLinear, writeU8, planeSet, planeAnd, planeOr, deplane}
+use Rattle.machine.specs.Calls.{seqReset, seqClock, seqSetClockChangePending, seqPollClockChange, seqReadAddress, seqReadData}
+use Rattle.machine.specs.Calls.{seqCpuReadU8, seqPeekU8, seqGcReadU8, seqReadLinear, seqSerializeLinear, seqPlaneSet, seqPlaneAnd, seqPlaneOr}
+use Rattle.machine.specs.Calls.{gcReset, gcChain, gcChain4, gcMemoryMap, gcOddEven, gcShiftMode, gcReadAddress, gcReadData, gcMapAddress}
+use Rattle.machine.specs.Calls.{cpuRead, cpuPeek, cpuWrite, serialize}
+use Rattle.machine.specs.Step.{State, Call, vram, sequencer, direct, graphics, cpu}
+use Rattle.machine.specs.Isolation.{Alike, Obeys, Along, Throughout}
 use Rattle.machine.specs.Claims.{total, counts, tally, Matches}
 use Rattle.machine.proofs.Isolation.{isolation}
 use Rattle.machine.proofs.Computed.{computed}
+use Rattle.machine.proofs.Worked.{gcTo, seqTo, aNumber, aPixel, aShow}
+use Rattle.machine.proofs.Questions.{quiet, quiet-obeys}
+use Rattle.machine.proofs.AlikeStates.{withPlane, with-plane-alike}
+use Rattle.machine.proofs.EveryKind.{everyKind}
 
--- two bytes a plane; the price stands in plane 3, in latch 3 and in bit 3 of each pixel
-priced : ℕ → ℕ → ℕ → State
-priced a b dot = state (gcOf (freshGc .registers) (freshGc .stats) (0 ∷ 0 ∷ 0 ∷ a ∷ [])) freshSeq (mem (0xF0 ∷ 0 ∷ []) (0xCC ∷ 0 ∷ []) (0xAA ∷ 0 ∷ []) (a ∷ b ∷ []) (replicate 16 dot))
+-- ---- the two states and the calls
 
+-- lot, grade and weight: two bytes a plane
+label : ℕ → List ℕ
+label p = getD ((0xF0 ∷ 0 ∷ []) ∷ (0xCC ∷ 0 ∷ []) ∷ (0xAA ∷ 0 ∷ []) ∷ []) p []
+
+-- the price stands in plane 3, in latch 3 and in bit 3 of each pixel
 pub cheap : State
-unfolding priced
-cheap = priced 0x00 0x18 0
+unfolding label withPlane
+cheap = withPlane 3 label (0x00 ∷ 0x18 ∷ []) 0x00 0
 
 pub dear : State
-unfolding priced
-dear = priced 0x7E 0xFF 8
+unfolding label withPlane
+dear = withPlane 3 label (0x7E ∷ 0xFF ∷ []) 0x7E 1
 
-pub calls : List Call
-calls =
-    -- the 64K window; sequential, every plane in the mask
-    graphics (gcWriteAddress 6)
-    ∷ graphics (gcWriteData 4)
-    ∷ sequencer (seqWriteAddress 4)
-    ∷ sequencer (seqWriteData 4)
-    ∷ sequencer (seqWriteAddress 2)
-    ∷ sequencer (seqWriteData 15)
+-- the label is painted and read
+pub painting : List Call
+unfolding gcTo seqTo
+painting =
+    -- both register sets at their start; the 64K window; sequential, every plane in the mask
+    (graphics gcReset ∷ sequencer seqReset ∷ [])
+    ++ (gcTo 6 4
+    ++ (seqTo 4 4
+    ++ (seqTo 2 15
     -- all latches loaded, plane 0's byte answered; write mode 1 stores them at the next offset, price and all
-    ∷ cpu (cpuRead 0xA0000 false)
-    ∷ graphics (gcWriteAddress 5)
-    ∷ graphics (gcWriteData 9)
-    ∷ cpu (cpuWrite 0xA0001 false 0)
+    ++ ((cpu (cpuRead 0xA0000 false) ∷ [])
+    ++ (gcTo 5 9
+    ++ ((cpu (cpuWrite 0xA0001 false 0) ∷ [])
     -- a compare read over planes 0 to 2, colour 3
-    ∷ graphics (gcWriteAddress 2)
-    ∷ graphics (gcWriteData 3)
-    ∷ graphics (gcWriteAddress 7)
-    ∷ graphics (gcWriteData 7)
-    ∷ cpu (cpuRead 0xA0001 false)
-    -- a show, a read past the planes, a peek, a direct plane read
+    ++ (gcTo 2 3
+    ++ (gcTo 7 7
+    ++ (cpu (cpuRead 0xA0001 false)
+    -- a show, a read past the planes, a peek
     ∷ cpu (serialize 1)
     ∷ cpu (cpuRead 0xA0002 false)
     ∷ cpu (cpuPeek 0xA0001 false)
-    ∷ vram (readU8 2 1)
+    ∷ [])))))))))
+
+-- it is read directly: planes 0 to 2 alone, and pixels
+reading : List Call
+reading =
+    vram (readU8 2 1)
+    ∷ vram (peekU8 0 1)
+    ∷ vram (readGlyph 1)
+    ∷ direct (seqCpuReadU8 0 0 false)
+    ∷ direct (seqPeekU8 1 0 false)
+    ∷ direct (seqGcReadU8 2 0 false)
+    -- pixel 1 of offset 1; offset 0's pixels as they were, then made from its bytes; pixel 6 of offset 1
+    ∷ vram (readLinear 9)
+    ∷ vram (serializeLinear 0)
+    ∷ vram (deplane 0)
+    ∷ direct (seqSerializeLinear 0)
+    ∷ direct (seqReadLinear 14)
     ∷ []
 
--- ---- plane 3 differs before, and changes
+-- direct stores, into plane 3 too
+storing : List Call
+storing =
+    vram (writeU8 0 0 0x0F)
+    ∷ vram (planeSet 3 1 0xC3)
+    ∷ vram (planeAnd 3 0 0x3C)
+    ∷ vram (planeOr 1 1 0x33)
+    ∷ direct (seqPlaneSet 2 1 false 0x0F)
+    ∷ direct (seqPlaneAnd 0 1 false 0xAA)
+    ∷ direct (seqPlaneOr 3 0 false 0x81)
+    ∷ []
 
-cheap-plane : computed cheap calls .final .memory .p3 ≡ 0x00 ∷ 0x00 ∷ []
-unfolding cheap calls computed
-cheap-plane = refl
+-- what the registers say
+ports : List Call
+ports =
+    sequencer seqClock
+    ∷ sequencer seqSetClockChangePending
+    ∷ sequencer seqPollClockChange
+    ∷ sequencer seqReadAddress
+    ∷ sequencer seqReadData
+    ∷ graphics gcChain
+    ∷ graphics gcChain4
+    ∷ graphics gcMemoryMap
+    ∷ graphics gcOddEven
+    ∷ graphics gcShiftMode
+    ∷ graphics gcReadAddress
+    ∷ graphics gcReadData
+    ∷ graphics (gcMapAddress 0xA0001 false)
+    ∷ []
 
-dear-plane : computed dear calls .final .memory .p3 ≡ 0x7E ∷ 0x7E ∷ []
-unfolding dear calls computed
-dear-plane = refl
+pub calls : List Call
+unfolding painting reading storing ports
+calls = painting ++ (reading ++ (storing ++ ports))
 
--- what is answered from the compare read on: that, the show, refusal 3, the peek, the direct read
-cheap-says : drop 14 (computed cheap calls .answers) ≡ said 0 (one 0x40) ∷ said 0 (part (7 ∷ 3 ∷ 5 ∷ 1 ∷ 6 ∷ 2 ∷ 4 ∷ 0 ∷ [])) ∷ said 3 (one 0) ∷ said 0 (one 0xF0) ∷ said 0 (one 0xAA) ∷ []
-unfolding cheap calls computed
+every-kind : everyKind calls ≡ true
+unfolding everyKind calls gcTo seqTo
+every-kind = refl
+
+-- ---- what is answered
+
+-- the answers of either run, but for the pixels: an offset's eight, the same before they were ever made, pixels 1 and 6
+labelSays : List ℕ → List ℕ → ℕ → ℕ → List Said
+labelSays eight unmade second seventh =
+    -- the registers written, the read, the store, the registers written
+    replicate 8 (aNumber 0)
+    ++ (aNumber 0xF0
+    ∷ (replicate 7 (aNumber 0)
+    -- the compare read, the show, refusal 3, the peek
+    ++ (aNumber 0x40
+    ∷ aShow eight
+    ∷ said 3 (one 0)
+    ∷ aNumber 0xF0
+    -- read directly
+    ∷ aNumber 0xAA
+    ∷ aNumber 0xF0
+    ∷ aNumber 0xAA
+    ∷ aNumber 0xF0
+    ∷ aNumber 0xCC
+    ∷ aNumber 0xAA
+    ∷ aPixel second
+    ∷ aShow unmade
+    ∷ aNumber 0
+    ∷ aShow eight
+    ∷ aPixel seventh
+    -- stored
+    ∷ (replicate 7 (aNumber 0)
+    -- clock 9, the mark set and polled, Map Mask 15
+    ++ (aNumber 9
+    ∷ aNumber 0
+    ∷ aNumber 1
+    ∷ aNumber 2
+    ∷ aNumber 15
+    -- no chain, no Chain4, A0000_64K, sequential, Standard, Don't Care 7, A0001 at offset 1
+    ∷ aNumber 0
+    ∷ aNumber 0
+    ∷ aNumber 1
+    ∷ aNumber 0
+    ∷ aNumber 0
+    ∷ aNumber 7
+    ∷ aNumber 7
+    ∷ said 0 (two 1 1)
+    ∷ [])))))
+
+cheap-says : computed cheap calls .answers ≡ labelSays (7 ∷ 3 ∷ 5 ∷ 1 ∷ 6 ∷ 2 ∷ 4 ∷ 0 ∷ []) (replicate 8 0) 3 4
+unfolding cheap calls gcTo seqTo labelSays computed
 cheap-says = refl
 
--- the same, but for bit 3 of the six pixels that carry the price
-dear-says : drop 14 (computed dear calls .answers) ≡ said 0 (one 0x40) ∷ said 0 (part (7 ∷ 11 ∷ 13 ∷ 9 ∷ 14 ∷ 10 ∷ 12 ∷ 0 ∷ [])) ∷ said 3 (one 0) ∷ said 0 (one 0xF0) ∷ said 0 (one 0xAA) ∷ []
-unfolding dear calls computed
+-- the same, but for bit 3 of the pixels that carry the price
+dear-says : computed dear calls .answers ≡ labelSays (7 ∷ 11 ∷ 13 ∷ 9 ∷ 14 ∷ 10 ∷ 12 ∷ 0 ∷ []) (replicate 8 8) 11 12
+unfolding dear calls gcTo seqTo labelSays computed
 dear-says = refl
 
--- ---- the two states are alike but for plane 3
+-- ---- what is left: plane 3 differs and changes; its pixels' bit 3 with it
 
-dots : Agree 3 0 8
-unfolding Agree bit
-dots zero ne = refl
-dots (suc zero) ne = refl
-dots (suc (suc zero)) ne = refl
-dots (suc (suc (suc zero))) ne = absurd (ne refl)
-dots (suc (suc (suc (suc b)))) ne = bit-high 4 (suc (suc (suc (suc b)))) 0 (omega arith) (omega arith) ∙ sym (bit-high 4 (suc (suc (suc (suc b)))) 8 (omega arith) (omega arith))
+cheap-leaves : computed cheap calls .final .memory
+    ≡ mem (0x0F ∷ 0xA0 ∷ []) (0xCC ∷ 0xFF ∷ []) (0xAA ∷ 0x0F ∷ []) (0x81 ∷ 0xC3 ∷ []) ((14 ∷ 2 ∷ 4 ∷ 0 ∷ 7 ∷ 3 ∷ 5 ∷ 9 ∷ []) ++ (11 ∷ 10 ∷ 3 ∷ 2 ∷ 6 ∷ 6 ∷ 14 ∷ 14 ∷ []))
+unfolding cheap calls gcTo seqTo computed
+cheap-leaves = refl
 
-pictures : (n : ℕ) → Both (Agree 3) (replicate n 0) (replicate n 8)
-pictures zero = none
-pictures (suc n) = more dots (pictures n)
+dear-leaves : computed dear calls .final .memory
+    ≡ mem (0x0F ∷ 0xA0 ∷ []) (0xCC ∷ 0xFF ∷ []) (0xAA ∷ 0x0F ∷ []) (0xBD ∷ 0xC3 ∷ []) ((14 ∷ 2 ∷ 12 ∷ 8 ∷ 15 ∷ 11 ∷ 5 ∷ 9 ∷ []) ++ (11 ∷ 10 ∷ 3 ∷ 2 ∷ 6 ∷ 6 ∷ 14 ∷ 14 ∷ []))
+unfolding dear calls gcTo seqTo computed
+dear-leaves = refl
+
+-- ---- the premises hold
 
 pub alike : Alike 3 cheap dear
-unfolding cheap dear priced AlikeLatches
-alike = record {
-  gc = record { registers = record { same = refl }; stats = refl; latches = held };
-  seq = refl;
-  memory = record { planes = equal; lengths = long; pictures = pictures 16 };
-}
-  where
-    held : (p : ℕ) → p ≢ 3 → latch (cheap .gc .latches) p ≡ latch (dear .gc .latches) p
-    held zero ne = refl
-    held (suc zero) ne = refl
-    held (suc (suc zero)) ne = refl
-    held (suc (suc (suc zero))) ne = absurd (ne refl)
-    held (suc (suc (suc (suc p)))) ne = refl
-
-    equal : (p : ℕ) → p ≢ 3 → plane (cheap .memory) p ≡ plane (dear .memory) p
-    equal zero ne = refl
-    equal (suc zero) ne = refl
-    equal (suc (suc zero)) ne = refl
-    equal (suc (suc (suc zero))) ne = absurd (ne refl)
-    equal (suc (suc (suc (suc p)))) ne = refl
-
-    long : (p : ℕ) → length (plane (cheap .memory) p) ≡ length (plane (dear .memory) p)
-    long zero = refl
-    long (suc zero) = refl
-    long (suc (suc zero)) = refl
-    long (suc (suc (suc zero))) = refl
-    long (suc (suc (suc (suc p)))) = refl
-
--- ---- the premise holds
-
-zero-not-3 : _≢_ {A = ℕ} 0 3
-zero-not-3 e = omega arith
-
-two-not-3 : _≢_ {A = ℕ} 2 3
-two-not-3 e = omega arith
-
--- nothing is asked of a call on the ports
-gc-free : (s : State) (c : GraphicsCall) → Obeys 3 s (graphics c)
-unfolding NotFrom ComparesWithout NoPeek
-gc-free s c = record { reads = λ z. tt; compares = λ z. tt; peeks = tt }
-
-seq-free : (s : State) (c : SequencerCall) → Obeys 3 s (sequencer c)
-unfolding NotFrom ComparesWithout NoPeek
-seq-free s c = record { reads = λ z. tt; compares = λ z. tt; peeks = tt }
+unfolding cheap dear
+alike = with-plane-alike 3 label (0x00 ∷ 0x18 ∷ []) (0x7E ∷ 0xFF ∷ []) refl 0x00 0x7E 0 1 (omega arith) (omega arith)
 
 pub obeyed : Along (Obeys 3) cheap calls
-unfolding Along calls cheap computed NotFrom vramNotFrom cpuNotFrom selectedNotFrom ComparesWithout cpuWithout comparedWithout NoPeek cpuNoPeek
-obeyed = (
-  gc-free _ _,
-  (
-    gc-free _ _,
-    (
-      seq-free _ _,
-      (
-        seq-free _ _,
-        (
-          seq-free _ _,
-          (
-            seq-free _ _,
-            (
-              record { reads = λ z. zero-not-3; compares = λ z. tt; peeks = tt },
-              (
-                gc-free _ _,
-                (
-                  gc-free _ _,
-                  (
-                    record { reads = λ z. tt; compares = λ z. tt; peeks = tt },
-                    (
-                      gc-free _ _,
-                      (
-                        gc-free _ _,
-                        (
-                          gc-free _ _,
-                          (
-                            gc-free _ _,
-                            (
-                              record { reads = λ z. tt; compares = λ z. refl; peeks = tt },
-                              (
-                                record { reads = λ z. tt; compares = λ z. tt; peeks = tt },
-                                (
-                                  record { reads = λ z. tt; compares = λ z. refl; peeks = tt },
-                                  (
-                                    record { reads = λ z. tt; compares = λ z. tt; peeks = zero-not-3 },
-                                    (record { reads = λ z. two-not-3; compares = λ z. tt; peeks = tt }, tt),
-                                  ),
-                                ),
-                              ),
-                            ),
-                          ),
-                        ),
-                      ),
-                    ),
-                  ),
-                ),
-              ),
-            ),
-          ),
-        ),
-      ),
-    ),
-  ),
-)
+obeyed = quiet-obeys 3 calls cheap (unfold quiet calls gcTo seqTo cheap computed in refl)
 
 pub together : Throughout 3 cheap dear calls
 together = isolation 3 calls cheap dear alike obeyed
@@ -205,18 +200,18 @@ together = isolation 3 calls cheap dear alike obeyed
 -- ---- the counters: three accepted accesses, the refused one and the peek left out
 
 counted-three : total (computed cheap calls .final .gc .stats) ≡ 3
-unfolding cheap calls computed
+unfolding cheap calls gcTo seqTo computed
 counted-three = refl
 
 tallied-three : tally 0 cheap calls ≡ 3
-unfolding tally counts cheap calls computed
+unfolding tally counts cheap calls gcTo seqTo computed
 tallied-three = refl
 
 -- ---- the picture: the stored offset's eight pixels move, the other eight stay
 
-dear-picture : computed dear calls .final .memory .picture ≡ replicate 8 8 ++ (7 ∷ 11 ∷ 13 ∷ 9 ∷ 14 ∷ 10 ∷ 12 ∷ 0 ∷ [])
-unfolding dear calls computed
-dear-picture = refl
+painted-picture : computed dear painting .final .memory .picture ≡ replicate 8 8 ++ (7 ∷ 11 ∷ 13 ∷ 9 ∷ 14 ∷ 10 ∷ 12 ∷ 0 ∷ [])
+unfolding dear painting gcTo seqTo computed
+painted-picture = refl
 
 -- a picture that matches its planes
 matched : Memory

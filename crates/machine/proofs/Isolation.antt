@@ -92,7 +92,7 @@ module _ (k : ℕ) where
 
   -- ---- pixels
 
-  agree-of : (f g : ℕ → ℕ) → ((p : ℕ) → f p < 2) → ((p : ℕ) → g p < 2) → ((p : ℕ) → p ≢ k → f p ≡ g p) → Agree k (ofBits 4 f) (ofBits 4 g)
+  pub agree-of : (f g : ℕ → ℕ) → ((p : ℕ) → f p < 2) → ((p : ℕ) → g p < 2) → ((p : ℕ) → p ≢ k → f p ≡ g p) → Agree k (ofBits 4 f) (ofBits 4 g)
   unfolding Agree
   agree-of f g sf sg e b ne = go (decLt b 4)
     where
@@ -106,7 +106,7 @@ module _ (k : ℕ) where
   -- ---- memories made plane by plane
 
   module _ (f g : ℕ → List ℕ) (e : (p : ℕ) → p ≢ k → f p ≡ g p) (n : (p : ℕ) → length (f p) ≡ length (g p)) (l u : List ℕ) (h : Both (Agree k) l u) where
-    alike-planes : AlikeMemory k (planes f l) (planes g u)
+    pub alike-planes : AlikeMemory k (planes f l) (planes g u)
     alike-planes = record { planes = equal; lengths = long; pictures = h }
       where
         equal : (p : ℕ) → p ≢ k → plane (planes f l) p ≡ plane (planes g u) p

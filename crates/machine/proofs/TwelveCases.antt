@@ -3,10 +3,10 @@ use Prim.Native.Nat.{ℕ}
 use mathlib.Core.Path.{_≡_, refl}
 use mathlib.Core.Bool.{true, false}
 use mathlib.Core.List.{List, [], _∷_, _++_}
-use lib.ListN.{replicate, take}
+use lib.ListN.{replicate}
 use Rattle.machine.specs.Calls.{readU8, writeU8, gcReadAddress, gcReadData, gcWriteAddress, gcWriteData, gcMapAddress, cpuRead, cpuWrite}
 use Rattle.machine.specs.Step.{Call, vram, graphics, cpu}
-use Rattle.machine.proofs.Worked.{gcTo, seqTo, says, leaves, leads}
+use Rattle.machine.proofs.Worked.{gcTo, seqTo, says, leaves, leads, firsts, case11}
 
 -- the 64K window, every plane in the mask, sequential, Bit Mask so, Data Rotate so; a latch byte in plane 0
 drawing : ℕ → ℕ → ℕ → List Call
@@ -27,7 +27,7 @@ compares care =
     (cpu (cpuRead 0xA0000 false) ∷ [])
 
 pub cases : List (List ℕ)
-unfolding leads draws compares says leaves gcTo seqTo
+unfolding leads draws compares says leaves firsts case11 gcTo seqTo
 cases =
     -- 1. 128K plain
     leads 0 (0xBFFFF ∷ [])
@@ -49,9 +49,8 @@ cases =
     ∷ (compares 0xF ++ (compares 3 ++ compares 0))
     -- 10. chain-four, offset 5, Map Mask 0, GC sequential: every byte of the planes
     ∷ (let m = leaves (gcTo 6 4 ++ (gcTo 8 0xFF ++ (seqTo 4 12 ++ (cpu (cpuWrite 0xA0005 false 0xFF) ∷ [])))) in m .p0 ++ (m .p1 ++ (m .p2 ++ m .p3)))
-    -- 11. mode 2, byte 5, Bit Mask FF, Map Mask 7, function 0, sequential: the first byte of each plane, the first eight pixels
-    ∷ (let m = leaves (gcTo 6 4 ++ (gcTo 8 0xFF ++ (gcTo 5 2 ++ (seqTo 4 4 ++ (seqTo 2 7 ++ (cpu (cpuWrite 0xA0000 false 5) ∷ [])))))) in
-    take 1 (m .p0) ++ (take 1 (m .p1) ++ (take 1 (m .p2) ++ (take 1 (m .p3) ++ take 8 (m .picture)))))
+    -- 11. mode 2, byte 5, Bit Mask FF, Map Mask 7, function 0, sequential, zero memory: the first byte of each plane, the first eight pixels
+    ∷ firsts case11
     -- 12. address B after 3: reads B, data go to Data Rotate
     ∷ says (graphics (gcWriteAddress 3) ∷ graphics (gcWriteAddress 0xB) ∷ [])
     (graphics gcReadAddress ∷ graphics (gcWriteData 0x5A) ∷ graphics (gcWriteAddress 3) ∷ graphics gcReadData ∷ [])

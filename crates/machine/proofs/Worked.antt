@@ -4,10 +4,10 @@ use mathlib.Core.Bool.{false}
 use mathlib.Core.List.{List, [], _∷_, _++_, map}
 use lib.ListN.{replicate, take}
 use Rattle.machine.specs.Memory.{Memory, mem}
-use Rattle.machine.specs.Answers.{Value, one, two, pixel, part, Said}
+use Rattle.machine.specs.Answers.{Value, one, two, pixel, part, Said, said}
 use Rattle.types.specs.Start.{freshGc, freshSeq}
-use Rattle.machine.specs.Calls.{writeU8, seqWriteAddress, seqWriteData, gcWriteAddress, gcWriteData, gcMapAddress}
-use Rattle.machine.specs.Step.{State, state, Call, vram, sequencer, graphics}
+use Rattle.machine.specs.Calls.{writeU8, seqWriteAddress, seqWriteData, gcWriteAddress, gcWriteData, gcMapAddress, cpuWrite}
+use Rattle.machine.specs.Step.{State, state, Call, vram, sequencer, graphics, cpu}
 use Rattle.machine.proofs.Computed.{computed}
 
 -- both register sets at their start, eight bytes a plane, all 0
@@ -23,6 +23,16 @@ told a = a .number ∷ values (a .value)
     values (two x y) = x ∷ y ∷ []
     values (pixel x) = x ∷ []
     values (part l) = l
+
+-- an accepted answer: a number, a pixel, a show's pixels
+abbrev pub aNumber : ℕ → Said
+aNumber x = said 0 (one x)
+
+abbrev pub aPixel : ℕ → Said
+aPixel x = said 0 (pixel x)
+
+abbrev pub aShow : List ℕ → Said
+aShow l = said 0 (part l)
 
 -- a register written: its number, its data
 unfoldable pub gcTo : ℕ → ℕ → List Call
@@ -59,6 +69,16 @@ each f (x ∷ xs) = f x ++ each f xs
 unfoldable pub tops : List Call → List ℕ
 unfolding leaves
 tops cs = let m = leaves cs in take 2 (m .p0) ++ (take 2 (m .p1) ++ (take 2 (m .p2) ++ take 2 (m .p3)))
+
+-- the first byte of each plane and the first eight pixels after calls
+unfoldable pub firsts : List Call → List ℕ
+unfolding leaves
+firsts cs = let m = leaves cs in take 1 (m .p0) ++ (take 1 (m .p1) ++ (take 1 (m .p2) ++ (take 1 (m .p3) ++ take 8 (m .picture))))
+
+-- case 11's write: mode 2, byte 5, Bit Mask FF, Map Mask 7, function 0, sequential
+unfoldable pub case11 : List Call
+unfolding gcTo seqTo
+case11 = gcTo 6 4 ++ (gcTo 8 0xFF ++ (gcTo 5 2 ++ (seqTo 4 4 ++ (seqTo 2 7 ++ (cpu (cpuWrite 0xA0000 false 5) ∷ [])))))
 
 -- the 64K window, sequential, every plane in the mask, Bit Mask FF; 11, 22, 44, 88 in the planes' first bytes and 1, 2, 4, 8 in the next
 unfoldable pub painted : List Call

@@ -13,6 +13,7 @@ use Rattle.types.specs.declared.graphics.ShiftMode.the-variants.{CGACompatible,
 use Rattle.types.specs.declared.graphics.GraphicsRegisters.{GraphicsRegisters}
 use Rattle.types.specs.declared.graphics.GraphicsControllerStats.{GraphicsControllerStats}
 use Rattle.types.specs.declared.sequencer.Sequencer.{Sequencer}
+use Rattle.types.specs.Start.{freshGc, freshSeq}
 use Rattle.machine.specs.Memory.{Memory, shape, Shaped}
 use Rattle.machine.specs.Answers.{blank, Outcome}
 use Rattle.machine.specs.Graphics.{shiftMode, memoryMap}
@@ -23,7 +24,7 @@ use Rattle.machine.specs.Calls.{SequencerCall, seqReset, seqClock, seqSe
 use Rattle.machine.specs.Calls.{DirectCall, seqCpuReadU8, seqPeekU8, seqGcReadU8, seqReadLinear, seqSerializeLinear, seqPlaneSet, seqPlaneAnd, seqPlaneOr, directPlan}
 use Rattle.machine.specs.Calls.{GraphicsCall, gcReset, gcChain, gcChain4, gcMemoryMap, gcOddEven, gcShiftMode, gcReadAddress, gcReadData, gcWriteAddress, gcWriteData, gcMapAddress}
 use Rattle.machine.specs.Calls.{CpuCall, cpuRead, cpuPeek, cpuWrite, serialize, cpuPlan}
-use Rattle.machine.specs.Step.{State, Call, vram, sequencer, direct, graphics, cpu, step}
+use Rattle.machine.specs.Step.{State, state, Call, vram, sequencer, direct, graphics, cpu, step}
 
 -- ---- `refused-exactly`: what each call looks for, and in which order
 
@@ -186,6 +187,17 @@ inOrder (n ∷ ns) (c ∷ cs) = pick (eqb n (c .number)) (inOrder ns cs) (inOrde
 pub record Stays {S : Type 0} (o : Outcome S) (old : S) : Type 0 where
   pub next : o .next ≡ old
   pub value : o .answer .value ≡ blank (o .answer .value)
+
+-- ---- `records-stay`: a record that refusal 6 lets pass is left such
+
+-- both records hold what their registers can
+pub record RightRecords (s : State) : Type 0 where
+  pub gc : RightGc (s .gc .registers)
+  pub seq : RightSeq (s .seq)
+
+-- both register sets at their start, whatever the memory
+abbrev pub atStart : Memory → State
+atStart m = state freshGc freshSeq m
 
 -- ---- `counters-sum`: the accepted reads and writes of the processor since a reset
 

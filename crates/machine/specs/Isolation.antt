@@ -2,6 +2,7 @@
 use Prim.Native.Nat.{ℕ, suc, _+_, _*_, _/_, _%_, _^_}
 use mathlib.Core.Logic.{_≢_}
 use mathlib.Core.Path.{_≡_}
+use mathlib.Core.Bool.{Bool}
 use mathlib.Core.List.{List, [], _∷_, map}
 use lib.ListN.{length}
 use Rattle.bits.specs.Bit.{bit}
@@ -152,6 +153,25 @@ pub record ObeysAccepted (k : ℕ) (s : State) (c : Call) : Type 0 where
   pub reads : accepted s c → NotFrom k s c
   pub compares : accepted s c → ComparesWithout k s c
   pub peeks : accepted s c → NoPeek k c
+
+-- the questions that the premise rules out, a constructor for each kind of call that can ask one: `asks-nothing-else` says that there is no other
+pub data Asked (k : ℕ) (s : State) : Call → Type 0 where
+  -- an accepted read by plane in vram.rs of plane k, each `peek_u8` included, and `read_glyph` where k is 2 ..
+  asksReadU8 : {p o : ℕ} → p ≡ k → accepted s (vram (readU8 p o)) → Asked k s (vram (readU8 p o))
+  asksPeekU8 : {p o : ℕ} → p ≡ k → accepted s (vram (peekU8 p o)) → Asked k s (vram (peekU8 p o))
+  asksReadGlyph : {o : ℕ} → 2 ≡ k → accepted s (vram (readGlyph o)) → Asked k s (vram (readGlyph o))
+  -- .. or in the sequencer
+  asksSeqCpuReadU8 : {p o : ℕ} {a : Bool} → p ≡ k → accepted s (direct (seqCpuReadU8 p o a)) → Asked k s (direct (seqCpuReadU8 p o a))
+  asksSeqPeekU8 : {p o : ℕ} {a : Bool} → p ≡ k → accepted s (direct (seqPeekU8 p o a)) → Asked k s (direct (seqPeekU8 p o a))
+  asksSeqGcReadU8 : {p o : ℕ} {a : Bool} → p ≡ k → accepted s (direct (seqGcReadU8 p o a)) → Asked k s (direct (seqGcReadU8 p o a))
+  -- an accepted selected-plane read whose selected plane is k
+  asksSelected : {x : ℕ} {page : Bool} → readMode (s .gc .registers) ≡ ReadSelectedPlane → selectedPlane (s .gc .registers) x ≡ k
+      → accepted s (cpu (cpuRead x page)) → Asked k s (cpu (cpuRead x page))
+  -- an accepted compare read with k's Color Don't Care bit set
+  asksCompared : {x : ℕ} {page : Bool} → readMode (s .gc .registers) ≡ ReadComparedPlanes → bit k (s .gc .registers .«color_dont_care») ≡ 1
+      → accepted s (cpu (cpuRead x page)) → Asked k s (cpu (cpuRead x page))
+  -- where k is 0, a peek
+  asksPeek : {x : ℕ} {page : Bool} → 0 ≡ k → Asked k s (cpu (cpuPeek x page))
 
 -- a premise kept by each call of a run
 unfoldable pub Along : (State → Call → Type 0) → State → List Call → Type 0
