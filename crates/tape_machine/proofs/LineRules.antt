@@ -7,12 +7,12 @@ use Rattle.tape_records.specs.declared.records.Fault.the-variants.{Open, Damage
 use Rattle.tape_machine.specs.declared.told.Handed.the-variants.{Byte}
 use Rattle.tape_machine.specs.Told.{toldSaid, handedOf}
 use Rattle.tape_machine.specs.Text.{digitsOf, decimalOf, fieldOf, hexOf}
-use Rattle.tape_machine.specs.Lines.{nameOf, valueOf, lineOf}
+use Rattle.tape_machine.specs.Lines.{nameOf, valueText, lineOf}
 use Rattle.tape_machine.specs.Run.{faultSaid}
 
 -- what the definitions give, with each open
 unfoldable pub told : List (List ℕ)
-unfolding digitsOf decimalOf fieldOf hexOf nameOf valueOf lineOf handedOf
+unfolding digitsOf decimalOf fieldOf hexOf nameOf valueText lineOf handedOf
 told =
     lineOf 1 Unread (faultSaid Open)
     ∷ lineOf 20 (Was 9) (faultSaid OutOfRange)

@@ -8,11 +8,11 @@ use Rattle.tape_records.specs.declared.records.Fault.the-variants.{Open,
 use Rattle.tape_records.specs.declared.records.Operation.the-variants.{Unread, Was}
 use Rattle.tape_records.specs.declared.records.Record.{Record}
 use Rattle.tape_records.specs.declared.records.Record.the-variants.{Whole, Broken}
-use Rattle.tape_records.specs.Records.{arguments, greatestOf, judged, argumentOf, commandOf, next, thirdOf, secondOf, firstOf, started, recordOf}
+use Rattle.tape_records.specs.Records.{arguments, greatestOf, judged, argumentOf, commandOf, goesOn, thirdOf, secondOf, firstOf, started, recordOf}
 
 -- the record at the start of a tape, with every definition open
 unfoldable pub computedRecord : List ℕ → Record
-unfolding onTop lastGroup groups numberOf arguments greatestOf judged argumentOf commandOf next thirdOf secondOf firstOf started recordOf
+unfolding onTop lastGroup groups numberOf arguments greatestOf judged argumentOf commandOf goesOn thirdOf secondOf firstOf started recordOf
 computedRecord tape = recordOf tape
 
 pub broken :

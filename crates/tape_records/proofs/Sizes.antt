@@ -15,7 +15,7 @@ use Rattle.tape_records.specs.declared.records.Argument.{Argument}
 use Rattle.tape_records.specs.declared.records.Argument.the-variants.{Good, Bad}
 use Rattle.tape_records.specs.declared.records.Record.{Record}
 use Rattle.tape_records.specs.declared.records.Record.the-variants.{Whole, Broken}
-use Rattle.tape_records.specs.Records.{judged, argumentOf, next, thirdOf, secondOf, firstOf, started, recordOf}
+use Rattle.tape_records.specs.Records.{judged, argumentOf, goesOn, thirdOf, secondOf, firstOf, started, recordOf}
 
 -- ---- arguments
 
@@ -40,8 +40,8 @@ abbrev pub Taken : ℕ → Record → Type 0
 Taken k (Whole f n) = (0 < n) × (n ≤ k)
 Taken k (Broken o f) = Unit
 
-next-taken : (o most k m : ℕ) (x : Argument) (then : ℕ → ℕ → Record) → Sound most m x → ((v n : ℕ) → n ≤ m → Taken k (then v n)) → Taken k (next o x then)
-unfolding next
+next-taken : (o most k m : ℕ) (x : Argument) (then : ℕ → ℕ → Record) → Sound most m x → ((v n : ℕ) → n ≤ m → Taken k (then v n)) → Taken k (goesOn o x then)
+unfolding goesOn
 next-taken o most k m (Good v n) then h f = f v n (h .1)
 next-taken o most k m (Bad e) then h f = tt
 
