@@ -1,6 +1,6 @@
 -- `run_from_start` lends `run` the start's memory and records: what `run` ensures there, less the memory, which ends with the call.
 use Prim.Native.Nat.{ℕ}
-use mathlib.Core.Path.{_≡_, ap, sym}
+use mathlib.Core.Path.{_≡_, refl, ap, sym}
 use mathlib.Core.List.{List}
 use borrow.Author.Needs.{needs}
 use lib.ListN.{length-replicate}
@@ -15,10 +15,10 @@ use Rattle.tape_machine.specs.Program.{tapeStart, printed, printedOf}
 use Rattle.tape_reader.proofs.program.run_from_start.Statement.{statement}
 use Rattle.tape_reader.proofs.program.run_from_start.Tie as tie
 
-from-start : (tape out : List ℕ) {out′ : List ℕ} {r : Ran} {g : GraphicsController} {s : Sequencer} {m : Memory} → g ≡ freshGc → s ≡ freshSeq
-    → tapeRun r m out′ ≡ runOf tape (state g s (tapeStart .memory)) out → printed r out′ ≡ printedOf tape out
+from-start : (tape out : List ℕ) {out′ : List ℕ} {r : Ran} {g : GraphicsController} {s : Sequencer} (m : Memory) {m′ : Memory} → g ≡ freshGc → s ≡ freshSeq
+    → tapeRun r m′ out′ ≡ runOf tape (state g s m) out → m ≡ tapeStart .memory → printed r out′ ≡ printedOf tape out
 unfolding tapeStart printedOf
-from-start tape out e f p = ap (λ (o : TapeRun). printed (o .ran) (o .out)) (rw (e, f) at p)
+from-start tape out m e f p q = ap (λ (o : TapeRun). printed (o .ran) (o .out)) (rw (e, f, q) at p)
 
 new-requires : tie.Need-new-requires
 new-requires c κs = search needs
@@ -54,7 +54,7 @@ returns c =
     let at-seq = at-run .before .before .before .before .before .before .before in
     let at-gc = at-seq .before in
     let start = at-gc .before .before .before in
-    from-start (start .args .tape .now) (start .args .out .now) (at-gc .new .ensures) (at-seq .new2 .ensures) (at-run .run .ensures)
+    from-start (start .args .tape .now) (start .args .out .now) _ (at-gc .new .ensures) (at-seq .new2 .ensures) (at-run .run .ensures) refl
 
 pub run-from-start-spec : {M : Type 1} → statement M
 run-from-start-spec =
