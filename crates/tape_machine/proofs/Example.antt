@@ -13,12 +13,15 @@ use Rattle.tape_machine.specs.Run.{tapeRun, ranTo}
 use Rattle.tape_machine.specs.Program.{tapeStart}
 use Rattle.tape_machine.proofs.Computed.{computedRecords, computedRun, computedLines}
 
-pub tape : List ℕ
-tape = 0x03 ∷ 0x04 ∷ 0x04 ∷ 0x04 ∷ 0x03 ∷ 0x02 ∷ 0x04 ∷ 0x05 ∷ 0x01 ∷ 0x06 ∷ 0x02 ∷ 0x05 ∷ 0x01 ∷ 0x08 ∷ 0x02 ∷ 0xFF ∷ 0x01 ∷ 0x06 ∷ 0x80 ∷ 0x80 ∷ 0x28 ∷ 0x00 ∷ 0xA5 ∷ 0x01 ∷ 0x08 ∷ 0x00 ∷ 0x05 ∷ 0x80 ∷ 0x80 ∷ 0x28 ∷ 0x00 ∷ []
+-- its 31 bytes
+pub documentTape : List ℕ
+documentTape =
+    0x03 ∷ 0x04 ∷ 0x04 ∷ 0x04 ∷ 0x03 ∷ 0x02 ∷ 0x04 ∷ 0x05 ∷ 0x01 ∷ 0x06 ∷ 0x02 ∷ 0x05
+    ∷ 0x01 ∷ 0x08 ∷ 0x02 ∷ 0xFF ∷ 0x01 ∷ 0x06 ∷ 0x80 ∷ 0x80 ∷ 0x28 ∷ 0x00 ∷ 0xA5 ∷ 0x01 ∷ 0x08 ∷ 0x00 ∷ 0x05 ∷ 0x80 ∷ 0x80 ∷ 0x28 ∷ 0x00 ∷ []
 
 -- the eleven lines, a character a number, 10 at the end of each
-pub document : List ℕ
-document =
+pub documentLines : List ℕ
+documentLines =
     49 ∷ 32 ∷ 51 ∷ 32 ∷ 48 ∷ 32 ∷ 48 ∷ 10
     ∷ 50 ∷ 32 ∷ 52 ∷ 32 ∷ 48 ∷ 32 ∷ 48 ∷ 10
     ∷ 51 ∷ 32 ∷ 51 ∷ 32 ∷ 48 ∷ 32 ∷ 48 ∷ 10
@@ -31,8 +34,8 @@ document =
     ∷ 49 ∷ 48 ∷ 32 ∷ 56 ∷ 32 ∷ 48 ∷ 32 ∷ 53 ∷ 48 ∷ 53 ∷ 48 ∷ 48 ∷ 53 ∷ 48 ∷ 53 ∷ 10
     ∷ 49 ∷ 49 ∷ 32 ∷ 53 ∷ 32 ∷ 48 ∷ 32 ∷ 49 ∷ 54 ∷ 53 ∷ 10 ∷ []
 
-pub document-01 : computedLines tapeStart tape ≡ document
-unfolding computedLines tapeStart tape document
+pub document-01 : computedLines tapeStart documentTape ≡ documentLines
+unfolding computedLines tapeStart documentTape documentLines
 document-01 = refl
 
 -- a broken record stops a tape that goes on: a reset, an operation of 9, and what could be another reset

@@ -17,7 +17,7 @@ unfolding onTop lastGroup groups numberOf arguments greatestOf judged argumentOf
 computedRecord tape = recordOf tape
 
 -- "0 reset both; 1, 2 GC address, data; 3, 4 sequencer address, data; 5 read (address, page); 6 write (address, page, byte); 7 peek (address, page); 8 show (offset)"
-pub whole :
+pub each-operation :
     (computedRecord (0 ∷ 1 ∷ []) ≡ Whole Reset 1)
     × (computedRecord (1 ∷ 3 ∷ 0 ∷ []) ≡ Whole (GcAddress 3) 2)
     × (computedRecord (2 ∷ 4 ∷ 0 ∷ []) ≡ Whole (GcData 4) 2)
@@ -31,7 +31,7 @@ pub whole :
     × (computedRecord (7 ∷ 2 ∷ 0 ∷ 0 ∷ []) ≡ Whole (Peek 2 false) 3)
     × (computedRecord (8 ∷ 9 ∷ 0 ∷ []) ≡ Whole (Show (record { 0 = 9 })) 2)
 unfolding computedRecord
-whole = (refl, refl, refl, refl, refl, refl, refl, refl, refl, refl, refl, refl)
+each-operation = (refl, refl, refl, refl, refl, refl, refl, refl, refl, refl, refl, refl)
 
 pub broken :
     -- a fifth byte above 15
