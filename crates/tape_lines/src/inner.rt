@@ -3,7 +3,7 @@ ghost use Prim.Native.Nat.{_+_, _≤_};
 ghost use lib.ListN.{length};
 ghost use Rattle.tape_machine.specs.Told.{handedValue, toldSaid};
 ghost use Rattle.tape_machine.specs.Text.{Put};
-ghost use Rattle.tape_machine.specs.Lines.{nameOf, valueOf, lineOf};
+ghost use Rattle.tape_machine.specs.Lines.{nameOf, valueText, lineOf};
 use crate::text;
 use tape_machine::Handed;
 use tape_machine::Told;
@@ -25,8 +25,8 @@ fn name(operation: Operation, out: &mut [u8], at: usize) -> usize
 
 // A byte in decimal, eight digits for a show, 0 for a show that was refused.
 fn value(handed: Handed, out: &mut [u8], at: usize) -> usize
-    requires { ⌜ at + length (valueOf (handedValue handed)) ≤ length (now out) ⌝ }
-    ensures { λ r. ⌜ Put (now (out .entry)) at (valueOf (handedValue handed)) (now (out .exit)) r ⌝ }
+    requires { ⌜ at + length (valueText (handedValue handed)) ≤ length (now out) ⌝ }
+    ensures { λ r. ⌜ Put (now (out .entry)) at (valueText (handedValue handed)) (now (out .exit)) r ⌝ }
 {
     match handed {
         Handed::Byte(byte) => text::decimal(byte as u64, out, at),

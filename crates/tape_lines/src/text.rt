@@ -3,7 +3,7 @@ ghost use mathlib.Core.Path.{_≡_};
 ghost use mathlib.Core.List.{[], _∷_};
 ghost use Prim.Native.Nat.{_+_, _<_, _≤_};
 ghost use lib.ListN.{length};
-ghost use Rattle.tape_machine.specs.Told.{pixelsOf};
+ghost use Rattle.tape_machine.specs.Told.{eightPixels};
 ghost use Rattle.tape_machine.specs.Text.{decimalOf, fieldOf, hexOf, hexesOf, Put};
 use tape_machine::Eight;
 
@@ -63,7 +63,7 @@ fn four_digits(a: u8, b: u8, c: u8, d: u8, out: &mut [u8], at: usize) -> usize
 // A show's eight pixels, a digit each.
 pub fn eight_digits(eight: Eight, out: &mut [u8], at: usize) -> usize
     requires { ⌜ at + 8 ≤ length (now out) ⌝ }
-    ensures { λ r. ⌜ Put (now (out .entry)) at (hexesOf (pixelsOf eight)) (now (out .exit)) r ⌝ }
+    ensures { λ r. ⌜ Put (now (out .entry)) at (hexesOf (eightPixels eight)) (now (out .exit)) r ⌝ }
 {
     let place = four_digits(eight.a, eight.b, eight.c, eight.d, out, at);
     four_digits(eight.e, eight.f, eight.g, eight.h, out, place)

@@ -7,13 +7,13 @@ use Rattle.tape_records.specs.declared.records.Fault.the-variants.{Open, Damage
 use Rattle.tape_machine.specs.declared.told.Handed.the-variants.{Byte}
 use Rattle.tape_machine.specs.Told.{toldSaid, handedOf}
 use Rattle.tape_machine.specs.Text.{digitsOf, decimalOf, fieldOf, hexOf}
-use Rattle.tape_machine.specs.Lines.{nameOf, valueOf, lineOf}
+use Rattle.tape_machine.specs.Lines.{nameOf, valueText, lineOf}
 use Rattle.tape_machine.specs.Run.{faultSaid}
 
 -- what the definitions give, with each open
-unfoldable pub told : List (List ℕ)
-unfolding digitsOf decimalOf fieldOf hexOf nameOf valueOf lineOf handedOf
-told =
+unfoldable pub lines : List (List ℕ)
+unfolding digitsOf decimalOf fieldOf hexOf nameOf valueText lineOf handedOf
+lines =
     lineOf 1 Unread (faultSaid Open)
     ∷ lineOf 20 (Was 9) (faultSaid OutOfRange)
     ∷ lineOf 3 (Was 5) (faultSaid Damage)
@@ -24,8 +24,8 @@ told =
     ∷ []
 
 -- what the document says, a character a number
-pub toldSaidSo : List (List ℕ)
-toldSaidSo =
+pub linesSaid : List (List ℕ)
+linesSaid =
     (49 ∷ 32 ∷ 45 ∷ 32 ∷ 55 ∷ 32 ∷ 48 ∷ 10 ∷ [])
     ∷ (50 ∷ 48 ∷ 32 ∷ 57 ∷ 32 ∷ 56 ∷ 32 ∷ 48 ∷ 10 ∷ [])
     ∷ (51 ∷ 32 ∷ 53 ∷ 32 ∷ 55 ∷ 32 ∷ 48 ∷ 10 ∷ [])
@@ -35,6 +35,6 @@ toldSaidSo =
     ∷ (54 ∷ 32 ∷ 53 ∷ 32 ∷ 48 ∷ 32 ∷ 50 ∷ 53 ∷ 53 ∷ 10 ∷ [])
     ∷ []
 
-pub line-rules : told ≡ toldSaidSo
-unfolding told toldSaidSo
+pub line-rules : lines ≡ linesSaid
+unfolding lines linesSaid
 line-rules = refl

@@ -14,8 +14,8 @@ use Rattle.tape_records.specs.declared.records.Record.{Record}
 use Rattle.tape_records.specs.declared.records.Record.the-variants.{Whole, Broken}
 use Rattle.tape_records.specs.Records.{recordOf}
 use Rattle.tape_machine.specs.Text.{digitsOf, decimalOf, fieldOf, hexOf}
-use Rattle.tape_machine.specs.Lines.{nameOf, valueOf, lineOf}
-use Rattle.tape_machine.specs.Run.{longest, more, recordsAfter, recordsOf, recordLine, left, linesOf}
+use Rattle.tape_machine.specs.Lines.{nameOf, valueText, lineOf}
+use Rattle.tape_machine.specs.Run.{longest, upToStop, recordsAfter, recordsOf, recordLine, left, linesOf}
 
 picked : (t : Bool) (l : List ℕ) (k : ℕ) → length l ≤ k → length (pick t [] l) ≤ k
 picked true l k h = omega arith
@@ -40,8 +40,8 @@ unfolding nameOf
 name-length Unread = omega arith
 name-length (Was n) = field-length n
 
-value-length : (v : Value) → length (valueOf v) ≤ 20
-unfolding valueOf
+value-length : (v : Value) → length (valueText v) ≤ 20
+unfolding valueText
 value-length (one x) = decimal-length x
 value-length (two x y) = decimal-length x
 value-length (pixel x) = decimal-length x
@@ -57,10 +57,10 @@ line-length k o a =
       name-length o,
       field-length (a .number),
       value-length (a .value),
-      length-append (fieldOf k) (nameOf o ++ (fieldOf (a .number) ++ (valueOf (a .value) ++ (10 ∷ [])))),
-      length-append (nameOf o) (fieldOf (a .number) ++ (valueOf (a .value) ++ (10 ∷ []))),
-      length-append (fieldOf (a .number)) (valueOf (a .value) ++ (10 ∷ [])),
-      length-append (valueOf (a .value)) (10 ∷ []),
+      length-append (fieldOf k) (nameOf o ++ (fieldOf (a .number) ++ (valueText (a .value) ++ (10 ∷ [])))),
+      length-append (nameOf o) (fieldOf (a .number) ++ (valueText (a .value) ++ (10 ∷ []))),
+      length-append (fieldOf (a .number)) (valueText (a .value) ++ (10 ∷ [])),
+      length-append (valueText (a .value)) (10 ∷ []),
     )
 
 record-line-length : (k : ℕ) (s : State) (r : Record) → length (recordLine k s r) ≤ longest
@@ -74,8 +74,8 @@ lines-length k s [] = omega arith
 lines-length k s (r ∷ rs) =
     omega (arith, record-line-length k s r, lines-length (k + 1) (left s r) rs, length-append (recordLine k s r) (linesOf (k + 1) (left s r) rs))
 
-more-length : (r : Record) (rest : ℕ → List Record) (m : ℕ) → ((n : ℕ) → length (rest n) ≤ m) → length (more r rest) ≤ suc m
-unfolding more
+more-length : (r : Record) (rest : ℕ → List Record) (m : ℕ) → ((n : ℕ) → length (rest n) ≤ m) → length (upToStop r rest) ≤ suc m
+unfolding upToStop
 more-length (Whole x n) rest m h = omega (arith, h (n - 1))
 more-length (Broken o f) rest m h = omega arith
 

@@ -3,3 +3,4 @@ pub mod Text
 pub mod Performs
 pub mod Lines
 pub mod Run
+pub mod Program

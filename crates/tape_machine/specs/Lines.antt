@@ -13,13 +13,13 @@ nameOf Unread = 45 ∷ 32 ∷ []
 nameOf (Was n) = fieldOf n
 
 -- an empty part is a show that was refused; no record's call hands back two numbers or a pixel by itself
-unfoldable pub valueOf : Value → List ℕ
-valueOf (one x) = decimalOf x
-valueOf (two x y) = decimalOf x
-valueOf (pixel x) = decimalOf x
-valueOf (part []) = decimalOf 0
-valueOf (part (x ∷ l)) = hexesOf (take 8 (x ∷ l))
+unfoldable pub valueText : Value → List ℕ
+valueText (one x) = decimalOf x
+valueText (two x y) = decimalOf x
+valueText (pixel x) = decimalOf x
+valueText (part []) = decimalOf 0
+valueText (part (x ∷ l)) = hexesOf (take 8 (x ∷ l))
 
 -- blanks between, one newline at the end
 unfoldable pub lineOf : ℕ → Operation → Said → List ℕ
-lineOf number operation a = fieldOf number ++ (nameOf operation ++ (fieldOf (a .number) ++ (valueOf (a .value) ++ (10 ∷ []))))
+lineOf number operation a = fieldOf number ++ (nameOf operation ++ (fieldOf (a .number) ++ (valueText (a .value) ++ (10 ∷ []))))

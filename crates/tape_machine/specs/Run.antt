@@ -28,15 +28,15 @@ use Rattle.tape_machine.specs.Lines.{lineOf}
 -- ---- the records of a tape
 
 -- a record, and after a whole one what follows it; a broken one ends the tape
-unfoldable pub more : Record → (ℕ → List Record) → List Record
-more (Whole x n) rest = Whole x n ∷ rest (n - 1)
-more (Broken o f) rest = Broken o f ∷ []
+unfoldable pub upToStop : Record → (ℕ → List Record) → List Record
+upToStop (Whole x n) rest = Whole x n ∷ rest (n - 1)
+upToStop (Broken o f) rest = Broken o f ∷ []
 
 -- the records of bytes of which the first `skip` belong to the record before
 unfoldable pub recordsAfter : ℕ → List ℕ → List Record
 recordsAfter skip [] = []
 recordsAfter (suc skip) (b ∷ s) = recordsAfter skip s
-recordsAfter zero (b ∷ s) = more (recordOf (b ∷ s)) (λ n. recordsAfter n s)
+recordsAfter zero (b ∷ s) = upToStop (recordOf (b ∷ s)) (λ n. recordsAfter n s)
 
 -- the records of a whole tape: none of its bytes belongs to a record before
 unfoldable pub recordsOf : List ℕ → List Record
@@ -84,15 +84,15 @@ unfoldable pub ending : State → List Record → State
 ending s [] = s
 ending s (r ∷ rs) = ending (left s r) rs
 
--- what came back, and what stands behind the lent slices
-pub record Outcome : Type 0 where
+-- a whole run of a tape: what came back, and what stands behind the lent slices
+pub record TapeRun : Type 0 where
   pub ran : Ran
   pub memory : Memory
   pub out : List ℕ
 
 -- .. put together
-abbrev pub outcome : Ran → Memory → List ℕ → Outcome
-outcome r m o = record { ran = r; memory = m; out = o }
+abbrev pub tapeRun : Ran → Memory → List ℕ → TapeRun
+tapeRun r m o = record { ran = r; memory = m; out = o }
 
 -- a run that had room
 abbrev pub endedOf : ℕ → GraphicsController → Sequencer → Ran
@@ -103,16 +103,16 @@ abbrev pub ranTo : DoneAnswer → ℕ → State → Ran
 ranTo a n s = record { answer = a; written = n; gc = s .gc; seq = s .seq }
 
 -- the lines stand at the start of `out`, whose other bytes stay
-unfoldable pub playedOf : List ℕ → State → List ℕ → Outcome
+unfoldable pub playedOf : List ℕ → State → List ℕ → TapeRun
 playedOf tape s out =
     let lines = linesOf 1 s (recordsOf tape) in
     let end = ending s (recordsOf tape) in
-    outcome (ranTo Done (length lines) end) (end .memory) (sets out 0 lines)
+    tapeRun (ranTo Done (length lines) end) (end .memory) (sets out 0 lines)
 
 -- the longest line: four numbers of at most 20 digits, and what parts them
 abbrev pub longest : ℕ
 longest = 84
 
 -- `out` has to hold the longest line for each byte of the tape, else nothing is done
-unfoldable pub runOf : List ℕ → State → List ℕ → Outcome
-runOf tape s out = pick (leb (longest * length tape) (length out)) (playedOf tape s out) (outcome (ranTo (Refused Room) 0 s) (s .memory) out)
+unfoldable pub runOf : List ℕ → State → List ℕ → TapeRun
+runOf tape s out = pick (leb (longest * length tape) (length out)) (playedOf tape s out) (tapeRun (ranTo (Refused Room) 0 s) (s .memory) out)

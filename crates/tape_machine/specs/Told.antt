@@ -11,13 +11,13 @@ use Rattle.tape_machine.specs.declared.told.Handed.the-variants.{Byte, P
 use Rattle.tape_machine.specs.declared.told.Told.{Told}
 
 -- the eight pixels of a show, as a list
-abbrev pub pixelsOf : Eight → List ℕ
-pixelsOf x = x .a ∷ x .b ∷ x .c ∷ x .d ∷ x .e ∷ x .f ∷ x .g ∷ x .h ∷ []
+abbrev pub eightPixels : Eight → List ℕ
+eightPixels x = x .a ∷ x .b ∷ x .c ∷ x .d ∷ x .e ∷ x .f ∷ x .g ∷ x .h ∷ []
 
 -- what was handed back, as the machine's value: a byte, a show's part, or the empty part of a refused show
 abbrev pub handedValue : Handed → Value
 handedValue (Byte x) = one x
-handedValue (Pixels x) = part (pixelsOf x)
+handedValue (Pixels x) = part (eightPixels x)
 handedValue Nothing = part []
 
 -- an answer as the machine's number and value

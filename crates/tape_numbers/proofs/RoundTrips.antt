@@ -12,7 +12,7 @@ use borrow.Author.Tests.{lt-ltb, le-ltb, lt-leb, ne-eqb, ltb-true, ltb-false, le
 use Rattle.bits.specs.Bit.{pick}
 use Rattle.tape_numbers.specs.declared.Number.{Number}
 use Rattle.tape_numbers.specs.declared.Number.the-variants.{Value, Ended, Damaged}
-use Rattle.tape_numbers.specs.Numbers.{limit32, onTop, lastGroup, groups, numberOf, written}
+use Rattle.tape_numbers.specs.Numbers.{limit32, onTop, lastGroup, groups, numberOf, shortestForm}
 use Rattle.tape_numbers.proofs.Sizes.{either}
 
 -- what a group may be: any number where none went before, else none that is 0
@@ -36,14 +36,14 @@ last-back false (suc v) h = rw (ne-eqb (suc v) 0 (λ q. omega arith))
 
 -- a number of one group
 short-back : (k : ℕ) (first : Bool) (limit v : ℕ) (rest : List ℕ) → v < 128 → v < limit → Allowed first v
-    → groups first limit (written (suc k) v ++ rest) ≡ Value v (length (written (suc k) v))
-unfolding written groups
+    → groups first limit (shortestForm (suc k) v ++ rest) ≡ Value v (length (shortestForm (suc k) v))
+unfolding shortestForm groups
 short-back k first limit v rest h l f = rw (lt-ltb v 128 h, lt-leb limit v l, lt-ltb v 128 h) (last-back first v f)
 
 -- a number of more, once the others are read back
-long-back : (k : ℕ) (first : Bool) (m v : ℕ) (rest : List ℕ) → 2 ≤ m → 128 ≤ v → groups false m (written k (v / 128) ++ rest) ≡ Value (v / 128) (length (written k (v / 128)))
-    → groups first (128 * m) (written (suc k) v ++ rest) ≡ Value v (length (written (suc k) v))
-unfolding written groups onTop
+long-back : (k : ℕ) (first : Bool) (m v : ℕ) (rest : List ℕ) → 2 ≤ m → 128 ≤ v → groups false m (shortestForm k (v / 128) ++ rest) ≡ Value (v / 128) (length (shortestForm k (v / 128)))
+    → groups first (128 * m) (shortestForm (suc k) v ++ rest) ≡ Value v (length (shortestForm (suc k) v))
+unfolding shortestForm groups onTop
 long-back k first m v rest h l e =
     let a : 128 + v % 128 < 128 * m = omega arith in
     let b : 128 ≤ 128 + v % 128 = omega arith in
@@ -51,7 +51,7 @@ long-back k first m v rest h l e =
     rw (le-ltb v 128 l, lt-leb (128 * m) (128 + v % 128) a, le-ltb (128 + v % 128) 128 b, d, e) (ap₂ Value (omega arith) (omega arith))
 
 back : (k : ℕ) (first : Bool) (limit v : ℕ) (rest : List ℕ) → Whole limit → v < 128 ^ suc k → v < limit → Allowed first v
-    → groups first limit (written (suc k) v ++ rest) ≡ Value v (length (written (suc k) v))
+    → groups first limit (shortestForm (suc k) v ++ rest) ≡ Value v (length (shortestForm (suc k) v))
 back zero first limit v rest e h l f = let a : v < 128 = h in short-back zero first limit v rest a l f
 back (suc k) first limit v rest (one s) h l f = short-back (suc k) first limit v rest (omega arith) l f
 back (suc k) first limit v rest (more {m} t e) h l f =
@@ -65,7 +65,7 @@ whole-32 : Whole limit32
 whole-32 = more {m = 33554432} (omega arith) (more {m = 262144} (omega arith) (more {m = 2048} (omega arith) (more {m = 16} (omega arith) (one {l = 16} (omega arith)))))
 
 -- a number written and read back is the number, and its bytes are those that were written, whatever follows
-pub number-back : (v : ℕ) (rest : List ℕ) → v < limit32 → numberOf limit32 (written 5 v ++ rest) ≡ Value v (length (written 5 v))
+pub number-back : (v : ℕ) (rest : List ℕ) → v < limit32 → numberOf limit32 (shortestForm 5 v ++ rest) ≡ Value v (length (shortestForm 5 v))
 unfolding numberOf
 number-back v rest h = back 4 true limit32 v rest whole-32 (omega arith) h tt
 
@@ -77,7 +77,7 @@ pub data Bytes : List ℕ → Type 0 where
 
 -- a number that was read is below its limit and stands in its shortest form, wherever there is room for it
 abbrev Shortest : Bool → ℕ → List ℕ → Number → Type 0
-Shortest first limit s (Value v n) = Allowed first v × (v < limit) × ((k : ℕ) → n ≤ k → written k v ≡ take n s)
+Shortest first limit s (Value v n) = Allowed first v × (v < limit) × ((k : ℕ) → n ≤ k → shortestForm k v ≡ take n s)
 Shortest first limit s Ended = Unit
 Shortest first limit s Damaged = Unit
 
@@ -85,14 +85,14 @@ allowed-some : (first : Bool) (v : ℕ) → 0 < v → Allowed first v
 allowed-some true v h = tt
 allowed-some false v h = h
 
-last-written : (b : ℕ) (s : List ℕ) → b < 128 → (k : ℕ) → 1 ≤ k → written k b ≡ take 1 (b ∷ s)
-unfolding written
+last-written : (b : ℕ) (s : List ℕ) → b < 128 → (k : ℕ) → 1 ≤ k → shortestForm k b ≡ take 1 (b ∷ s)
+unfolding shortestForm
 last-written b s h zero l = absurd (omega arith)
 last-written b s h (suc k) l = rw (lt-ltb b 128 h)
 
-more-written : (b v n : ℕ) (s : List ℕ) → 128 ≤ b → b < 256 → 0 < v → ((k : ℕ) → n ≤ k → written k v ≡ take n s)
-    → (k : ℕ) → 1 + n ≤ k → written k (b - 128 + 128 * v) ≡ take (1 + n) (b ∷ s)
-unfolding written
+more-written : (b v n : ℕ) (s : List ℕ) → 128 ≤ b → b < 256 → 0 < v → ((k : ℕ) → n ≤ k → shortestForm k v ≡ take n s)
+    → (k : ℕ) → 1 + n ≤ k → shortestForm k (b - 128 + 128 * v) ≡ take (1 + n) (b ∷ s)
+unfolding shortestForm
 more-written b v n s h o p f zero l = absurd (omega arith)
 more-written b v n s h o p f (suc k) l =
     let a : 128 ≤ b - 128 + 128 * v = omega arith in
@@ -129,7 +129,7 @@ forth first limit (b ∷ s) (byte o r) =
     on-top-shortest first limit b s _ (ltb-false b 128 h) o (forth false (limit / 128) s r)
 
 -- what is read as a number is a number of the tape, and its bytes are that number written
-pub number-forth : (s : List ℕ) (v n : ℕ) → Bytes s → numberOf limit32 s ≡ Value v n → (v < limit32) × (written n v ≡ take n s)
+pub number-forth : (s : List ℕ) (v n : ℕ) → Bytes s → numberOf limit32 s ≡ Value v n → (v < limit32) × (shortestForm n v ≡ take n s)
 unfolding numberOf
 number-forth s v n h e =
     let f = subst (Shortest true limit32 s) e (forth true limit32 s h) in

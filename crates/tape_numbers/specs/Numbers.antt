@@ -32,6 +32,6 @@ unfoldable pub numberOf : ℕ → List ℕ → Number
 numberOf limit s = groups true limit s
 
 -- a number written in its shortest form, of at most k bytes
-unfoldable pub written : ℕ → ℕ → List ℕ
-written zero v = []
-written (suc k) v = pick (ltb v 128) (v ∷ []) ((128 + v % 128) ∷ written k (v / 128))
+unfoldable pub shortestForm : ℕ → ℕ → List ℕ
+shortestForm zero v = []
+shortestForm (suc k) v = pick (ltb v 128) (v ∷ []) ((128 + v % 128) ∷ shortestForm k (v / 128))

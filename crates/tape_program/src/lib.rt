@@ -1,6 +1,5 @@
-// The program of document 01 as two functions, so that each program that tries a tape runs the very same ones.
-use types::GraphicsController;
-use types::Sequencer;
+// The program of document 01 as two functions, so that each program that tries a tape runs the very same ones: what is read goes to
+// tape_reader's proved run, and its lines are written.
 
 // Reads the first 16,384 bytes of standard input as a tape, and plays it.
 pub fn play() {
@@ -9,32 +8,22 @@ pub fn play() {
     play_tape(&input[..count]);
 }
 
-// Writes a tape's lines to standard output: n = 4,096, memory zero, both register sets at start. A tape has at most 16,384 bytes.
+// Writes a tape's lines to standard output. A tape has at most 16,384 bytes.
 pub fn play_tape(tape: &[u8]) {
-    let mut p0 = [0u8; 4096];
-    let mut p1 = [0u8; 4096];
-    let mut p2 = [0u8; 4096];
-    let mut p3 = [0u8; 4096];
-    let mut picture = [0u8; 32768];
     // the longest line for each byte of the longest tape
     let mut lines = [0u8; 1376256];
-    let ran = tape_reader::run(
-        tape,
-        GraphicsController::new(),
-        Sequencer::new(),
-        &mut p0,
-        &mut p1,
-        &mut p2,
-        &mut p3,
-        &mut picture,
-        &mut lines,
-    );
+    let ran = tape_reader::run_from_start(tape, &mut lines);
     emit(&lines, ran.written);
 }
 
-// The first bytes of a text.
+// Writes the first bytes of a text; where that fails, a line to standard error says so, since a program has no exit status.
 fn emit(text: &[u8], count: usize) {
     if count <= text.len() {
-        io::write_all(libc::STDOUT_FILENO, &text[..count]);
+        if !io::write_all(libc::STDOUT_FILENO, &text[..count]) {
+            io::write_all(
+                libc::STDERR_FILENO,
+                b"tape: standard output could not be written\n",
+            );
+        }
     }
 }

@@ -8,9 +8,12 @@ use denote.Triple.Clauses.{AtExit}
 use borrow.Fn.Kinds.{Dens, endedOf}
 use Rattle.machine.specs.Memory.{Memory, lent}
 use Rattle.tape_machine.specs.declared.ran.Ran.{Ran}
-use Rattle.tape_machine.specs.Run.{Outcome}
+use Rattle.tape_machine.specs.Run.{TapeRun}
+use Rattle.tape_machine.specs.Program.{Printed}
 use Rattle.tape_reader.proofs.whole.run.Reads as run
 use Rattle.tape_reader.proofs.whole.run.Kinds as run-kinds
+use Rattle.tape_reader.proofs.program.run_from_start.Reads as run-from-start
+use Rattle.tape_reader.proofs.program.run_from_start.Kinds as run-from-start-kinds
 
 module _ (κs : Lfts 7) (a : Dens κs run-kinds.ps) where
   abbrev Played : Type 0
@@ -24,7 +27,18 @@ module _ (κs : Lfts 7) (a : Dens κs run-kinds.ps) where
 
   pub run-determined : (r r′ : Ran) (e e′ : Played) → run.Post κs a r e → run.Post κs a r′ e′ → (r ≡ r′) × (after e ≡ after e′) × (text e ≡ text e′)
   run-determined r r′ e e′ p q = (
-    ap (λ (o : Outcome). o .ran) (p ∙ sym q),
-    ap (λ (o : Outcome). o .memory) (p ∙ sym q),
-    ap (λ (o : Outcome). o .out) (p ∙ sym q),
+    ap (λ (o : TapeRun). o .ran) (p ∙ sym q),
+    ap (λ (o : TapeRun). o .memory) (p ∙ sym q),
+    ap (λ (o : TapeRun). o .out) (p ∙ sym q),
   )
+
+-- from the program's start; the memory ends with the call
+module _ (κs : Lfts 2) (a : Dens κs run-from-start-kinds.ps) where
+  abbrev Left : Type 0
+  Left = AtExit (endedOf 2 run-from-start-kinds.ps run-from-start-kinds.r) κs
+
+  abbrev lines : Left → List ℕ
+  lines e = now (e .1 .0)
+
+  pub run-from-start-determined : (r r′ : Ran) (e e′ : Left) → run-from-start.Post κs a r e → run-from-start.Post κs a r′ e′ → (r ≡ r′) × (lines e ≡ lines e′)
+  run-from-start-determined r r′ e e′ p q = (ap (λ (o : Printed). o .ran) (p ∙ sym q), ap (λ (o : Printed). o .out) (p ∙ sym q))

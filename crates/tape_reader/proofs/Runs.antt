@@ -9,7 +9,7 @@ use lib.ListN.{length, drop, length-append, length-drop, drop-of-length-le}
 use lib.Seq.{sets, drop-drop}
 use Rattle.types.specs.declared.answer.DoneAnswer.the-variants.{Done}
 use Rattle.machine.specs.Memory.{Memory}
-use Rattle.machine.specs.Answers.{Said, Outcome, outcome as answered}
+use Rattle.machine.specs.Answers.{Said, Outcome, outcome}
 use Rattle.machine.specs.Step.{State}
 use Rattle.tape_records.specs.declared.records.Command.{Command}
 use Rattle.tape_records.specs.declared.records.Fault.{Fault}
@@ -21,7 +21,7 @@ use Rattle.tape_records.specs.Records.{recordOf}
 use Rattle.tape_machine.specs.Performs.{performed}
 use Rattle.tape_machine.specs.Text.{Put}
 use Rattle.tape_machine.specs.Lines.{lineOf}
-use Rattle.tape_machine.specs.Run.{more, recordsAfter, recordsOf, operationNumber, faultSaid, recordLine, left, linesOf, ending, outcome, ranTo, playedOf}
+use Rattle.tape_machine.specs.Run.{upToStop, recordsAfter, recordsOf, operationNumber, faultSaid, recordLine, left, linesOf, ending, tapeRun, ranTo, playedOf}
 use Rattle.tape_records.proofs.Sizes.{record-fits}
 use Rattle.tape_lines.proofs.Texts.{sets-append, put-length}
 
@@ -38,13 +38,13 @@ unfolding recordsOf recordsAfter
 records-none = refl
 
 records-whole : (s : List ℕ) (x : Command) (n : ℕ) → 0 < length s → recordOf s ≡ Whole x n → recordsOf s ≡ Whole x n ∷ recordsOf (drop n s)
-unfolding recordsOf recordsAfter more
+unfolding recordsOf recordsAfter upToStop
 records-whole [] x n h e = absurd (omega arith)
 records-whole (b ∷ s) x zero h e = let k = record-fits (b ∷ s) refl e .0 in absurd (omega arith)
 records-whole (b ∷ s) x (suc m) h e = rw (e, sub-one (suc m)) (ap (λ (rs : List Record). Whole x (suc m) ∷ rs) (records-after m s))
 
 records-broken : (s : List ℕ) {o : Operation} {f : Fault} → 0 < length s → recordOf s ≡ Broken o f → recordsOf s ≡ Broken o f ∷ []
-unfolding recordsOf recordsAfter more
+unfolding recordsOf recordsAfter upToStop
 records-broken [] h q = absurd (omega arith)
 records-broken (b ∷ s) h q = rw q
 
@@ -75,17 +75,17 @@ module _ (all : List Record) (s₀ : State) (out₀ : List ℕ) (r : Record) (re
   }
 
 done : (tape : List ℕ) (s₀ : State) (out₀ : List ℕ) {s : State} {out : List ℕ} {k place : ℕ}
-    → Held (recordsOf tape) s₀ out₀ [] s out k place → outcome (ranTo Done place s) (s .memory) out ≡ playedOf tape s₀ out₀
+    → Held (recordsOf tape) s₀ out₀ [] s out k place → tapeRun (ranTo Done place s) (s .memory) out ≡ playedOf tape s₀ out₀
 unfolding playedOf linesOf ending
 done tape s₀ out₀ {place = place} held = rw (held .end, held .text, held .size, add-zero place)
 
 -- ---- a record that was performed
 
-line-whole : (k : ℕ) (s : State) (x : Command) (n : ℕ) {a : Said} {s′ : State} {o : ℕ} → answered a s′ ≡ performed s x → o ≡ operationNumber x → lineOf k (Was o) a ≡ recordLine k s (Whole x n)
+line-whole : (k : ℕ) (s : State) (x : Command) (n : ℕ) {a : Said} {s′ : State} {o : ℕ} → outcome a s′ ≡ performed s x → o ≡ operationNumber x → lineOf k (Was o) a ≡ recordLine k s (Whole x n)
 unfolding recordLine
 line-whole k s x n e p = rw (← e, p)
 
-left-whole : (s : State) (x : Command) (n : ℕ) {a : Said} {s′ : State} → answered a s′ ≡ performed s x → left s (Whole x n) ≡ s′
+left-whole : (s : State) (x : Command) (n : ℕ) {a : Said} {s′ : State} → outcome a s′ ≡ performed s x → left s (Whole x n) ≡ s′
 unfolding left
 left-whole s x n e = ap (λ (o : Outcome State). o .next) (sym e)
 
@@ -123,7 +123,7 @@ module _ (tape : List ℕ) (s₀ : State) (out₀ : List ℕ) where
   }
 
   module _ (s : State) (out : List ℕ) (at k place : ℕ) (loop : Loop tape s₀ out₀ s out at k place) where
-    pub loop-end : length tape ≤ at → outcome (ranTo Done place s) (s .memory) out ≡ playedOf tape s₀ out₀
+    pub loop-end : length tape ≤ at → tapeRun (ranTo Done place s) (s .memory) out ≡ playedOf tape s₀ out₀
     loop-end h = done tape s₀ out₀ (rw (drop-of-length-le tape h, records-none) at (loop .held))
 
     module _ (before-end : at < length tape) {r : Record} (read : r ≡ recordOf (drop at tape)) where
@@ -139,7 +139,7 @@ module _ (tape : List ℕ) (s₀ : State) (out₀ : List ℕ) where
         broken-fits p = rw p (fits _ _ _ _ _ _ _ _ _ stopped)
 
         pub broken-end : {a : Said} {out′ : List ℕ} {place′ : ℕ} → a ≡ faultSaid f → Put out place (lineOf k o a) out′ place′
-            → outcome (ranTo Done place′ s) (s .memory) out′ ≡ playedOf tape s₀ out₀
+            → tapeRun (ranTo Done place′ s) (s .memory) out′ ≡ playedOf tape s₀ out₀
         unfolding recordLine left
         broken-end p q = done tape s₀ out₀ (turn _ _ _ _ _ _ _ _ _ stopped (rw p at q))
 
@@ -152,7 +152,7 @@ module _ (tape : List ℕ) (s₀ : State) (out₀ : List ℕ) where
             let h = record-fits (drop at tape) read is in
             (h .0, omega (arith, h .1, length-drop at tape))
 
-        module _ {a : Said} {s′ : State} (went : answered a s′ ≡ performed s x) {o : ℕ} (p : o ≡ operationNumber x) where
+        module _ {a : Said} {s′ : State} (went : outcome a s′ ≡ performed s x) {o : ℕ} (p : o ≡ operationNumber x) where
           pub whole-fits : place + length (lineOf k (Was o) a) ≤ length out
           whole-fits = rw (line-whole k s x n went p) (fits _ _ _ _ _ _ _ _ _ goes-on)
 

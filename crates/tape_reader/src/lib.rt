@@ -1,6 +1,8 @@
-// The tape: a whole tape run.
+// The tape: a whole tape run, from any state or from the program's start.
+mod program;
 mod whole;
 
+pub use program::run_from_start;
 pub use tape_calls::Performed;
 pub use tape_calls::perform;
 pub use tape_machine::Eight;

@@ -5,7 +5,7 @@ ghost use lib.ListN.{length};
 ghost use Rattle.machine.specs.Memory.{lent, before, after};
 ghost use Rattle.machine.specs.Step.{state};
 ghost use Rattle.tape_machine.specs.Told.{toldSaid};
-ghost use Rattle.tape_machine.specs.Run.{operationNumber, faultSaid, recordsOf, linesOf, outcome, endedOf, playedOf, runOf};
+ghost use Rattle.tape_machine.specs.Run.{operationNumber, faultSaid, recordsOf, linesOf, tapeRun, endedOf, playedOf, runOf};
 use tape_calls::perform;
 use tape_lines::inner::line;
 use tape_machine::Handed;
@@ -94,7 +94,7 @@ fn play(
     out: &mut [u8],
 ) -> Ran
     requires { ⌜ length (linesOf 1 (state «first_gc» «first_seq» (lent p0 p1 p2 p3 picture)) (recordsOf (now tape))) ≤ length (now out) ⌝ }
-    ensures { λ r. ⌜ outcome r (after p0 p1 p2 p3 picture) (now (out .exit)) ≡ playedOf (now (tape .entry)) (state «first_gc» «first_seq» (before p0 p1 p2 p3 picture)) (now (out .entry)) ⌝ }
+    ensures { λ r. ⌜ tapeRun r (after p0 p1 p2 p3 picture) (now (out .exit)) ≡ playedOf (now (tape .entry)) (state «first_gc» «first_seq» (before p0 p1 p2 p3 picture)) (now (out .entry)) ⌝ }
 {
     let mut at: usize = 0;
     let mut number: u64 = 1;
@@ -134,7 +134,7 @@ pub fn run(
     picture: &mut [u8],
     out: &mut [u8],
 ) -> Ran
-    ensures { λ r. ⌜ outcome r (after p0 p1 p2 p3 picture) (now (out .exit)) ≡ runOf (now (tape .entry)) (state gc seq (before p0 p1 p2 p3 picture)) (now (out .entry)) ⌝ }
+    ensures { λ r. ⌜ tapeRun r (after p0 p1 p2 p3 picture) (now (out .exit)) ≡ runOf (now (tape .entry)) (state gc seq (before p0 p1 p2 p3 picture)) (now (out .entry)) ⌝ }
 {
     if out.len() / LONGEST < tape.len() {
         return Ran {

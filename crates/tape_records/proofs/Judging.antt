@@ -14,7 +14,7 @@ use Rattle.tape_numbers.specs.Numbers.{limit32, numberOf}
 use Rattle.tape_records.specs.declared.records.Argument.{Argument}
 use Rattle.tape_records.specs.declared.records.Record.{Record}
 use Rattle.tape_records.specs.declared.records.Record.the-variants.{Whole}
-use Rattle.tape_records.specs.Records.{arguments, greatestOf, judged, argumentOf, commandOf, next, thirdOf, secondOf, firstOf, started, recordOf}
+use Rattle.tape_records.specs.Records.{arguments, greatestOf, judged, argumentOf, commandOf, goesOn, thirdOf, secondOf, firstOf, started, recordOf}
 
 -- the table by tests, as the code has it
 abbrev byTests : ℕ → ℕ → ℕ
@@ -43,21 +43,21 @@ judged-so most s h p q = rw (ne-eqb most 0 h, sym p, q)
 
 -- an argument that was read at a place of the tape, and what follows from it
 next-so : (s : List ℕ) (from o p at : ℕ) (then : ℕ → ℕ → Record) {f : ℕ} {r x : Argument} → f ≡ greatestOf o p → r ≡ argumentOf f (drop (from + at) s) → r ≡ x
-    → next o x then ≡ next o (argumentOf (greatestOf o p) (drop at (drop from s))) then
+    → goesOn o x then ≡ goesOn o (argumentOf (greatestOf o p) (drop at (drop from s))) then
 next-so s from o p at then e g q = rw (drop-drop at from s, sym e, sym g, q)
 
 module _ (s : List ℕ) (from o a b at : ℕ) {f : ℕ} {r x : Argument} (e : f ≡ greatestOf o 2) (g : r ≡ argumentOf f (drop (from + at) s)) (q : r ≡ x) where
-  pub third-so : next o x (λ c n. Whole (commandOf o a b c) (at + n)) ≡ thirdOf (drop from s) o a b at
+  pub third-so : goesOn o x (λ c n. Whole (commandOf o a b c) (at + n)) ≡ thirdOf (drop from s) o a b at
   unfolding thirdOf
   third-so = next-so s from o 2 at _ e g q
 
 module _ (s : List ℕ) (from o a at : ℕ) {f : ℕ} {r x : Argument} (e : f ≡ greatestOf o 1) (g : r ≡ argumentOf f (drop (from + at) s)) (q : r ≡ x) where
-  pub second-so : next o x (λ b n. thirdOf (drop from s) o a b (at + n)) ≡ secondOf (drop from s) o a at
+  pub second-so : goesOn o x (λ b n. thirdOf (drop from s) o a b (at + n)) ≡ secondOf (drop from s) o a at
   unfolding secondOf
   second-so = next-so s from o 1 at _ e g q
 
 module _ (s : List ℕ) (from o at : ℕ) (small : o ≤ 8) {f : ℕ} {r x : Argument} (e : f ≡ greatestOf o 0) (g : r ≡ argumentOf f (drop (from + at) s)) (q : r ≡ x) where
-  pub first-so : next o x (λ a n. secondOf (drop from s) o a (at + n)) ≡ firstOf (drop from s) o at
+  pub first-so : goesOn o x (λ a n. secondOf (drop from s) o a (at + n)) ≡ firstOf (drop from s) o at
   unfolding firstOf
   first-so = rw (le-leb o 8 small) (next-so s from o 0 at _ e g q)
 

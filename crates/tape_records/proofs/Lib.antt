@@ -1,4 +1,4 @@
-pub mod Broken
+pub mod RecordRules
 pub mod Sizes
 pub mod Judging
 pub mod Determined

@@ -15,24 +15,24 @@ use Rattle.tape_records.specs.declared.records.Argument.{Argument}
 use Rattle.tape_records.specs.declared.records.Argument.the-variants.{Good, Bad}
 use Rattle.tape_records.specs.declared.records.Record.{Record}
 use Rattle.tape_records.specs.declared.records.Record.the-variants.{Whole, Broken}
-use Rattle.tape_records.specs.Records.{judged, argumentOf, next, thirdOf, secondOf, firstOf, started, recordOf}
+use Rattle.tape_records.specs.Records.{judged, argumentOf, goesOn, thirdOf, secondOf, firstOf, started, recordOf}
 
 -- ---- arguments
 
 -- in range, at most k bytes
-abbrev pub Sound : ℕ → ℕ → Argument → Type 0
-Sound most k (Good v n) = (v ≤ most) × (n ≤ k)
-Sound most k (Bad f) = Unit
+abbrev pub InRange : ℕ → ℕ → Argument → Type 0
+InRange most k (Good v n) = (v ≤ most) × (n ≤ k)
+InRange most k (Bad f) = Unit
 
-judged-sound : (most k : ℕ) (x : Number) → Within k x → Sound most k (judged most x)
+judged-sound : (most k : ℕ) (x : Number) → Within k x → InRange most k (judged most x)
 unfolding judged
-judged-sound most k (Value v n) h = either (Sound most k) (leb v most) (λ e. (leb-true v most e, h .1)) (λ e. tt)
+judged-sound most k (Value v n) h = either (InRange most k) (leb v most) (λ e. (leb-true v most e, h .1)) (λ e. tt)
 judged-sound most k Ended h = tt
 judged-sound most k Damaged h = tt
 
-argument-sound : (most : ℕ) (s : List ℕ) → Sound most (length s) (argumentOf most s)
+argument-sound : (most : ℕ) (s : List ℕ) → InRange most (length s) (argumentOf most s)
 unfolding argumentOf
-argument-sound most s = either (Sound most (length s)) (eqb most 0) (λ e. (omega arith, omega arith)) (λ e. judged-sound most (length s) _ (number-within limit32 s))
+argument-sound most s = either (InRange most (length s)) (eqb most 0) (λ e. (omega arith, omega arith)) (λ e. judged-sound most (length s) _ (number-within limit32 s))
 
 -- ---- records
 
@@ -40,8 +40,8 @@ abbrev pub Taken : ℕ → Record → Type 0
 Taken k (Whole f n) = (0 < n) × (n ≤ k)
 Taken k (Broken o f) = Unit
 
-next-taken : (o most k m : ℕ) (x : Argument) (then : ℕ → ℕ → Record) → Sound most m x → ((v n : ℕ) → n ≤ m → Taken k (then v n)) → Taken k (next o x then)
-unfolding next
+next-taken : (o most k m : ℕ) (x : Argument) (then : ℕ → ℕ → Record) → InRange most m x → ((v n : ℕ) → n ≤ m → Taken k (then v n)) → Taken k (goesOn o x then)
+unfolding goesOn
 next-taken o most k m (Good v n) then h f = f v n (h .1)
 next-taken o most k m (Bad e) then h f = tt
 
@@ -73,7 +73,7 @@ record-taken s = started-taken s _ (number-within limit32 s)
 
 pub argument-fits : (most at : ℕ) (s : List ℕ) {r : Argument} {v n : ℕ} → at ≤ length s → r ≡ argumentOf most (drop at s) → r ≡ Good v n → (v ≤ most) × (at + n ≤ length s)
 argument-fits most at s {v = v} {n = n} h p q =
-    let k : (v ≤ most) × (n ≤ length (drop at s)) = subst (Sound most (length (drop at s))) (sym p ∙ q) (argument-sound most (drop at s)) in
+    let k : (v ≤ most) × (n ≤ length (drop at s)) = subst (InRange most (length (drop at s))) (sym p ∙ q) (argument-sound most (drop at s)) in
     (k .0, omega (arith, k .1, length-drop at s))
 
 pub record-fits : (s : List ℕ) {r : Record} {f : Command} {n : ℕ} → r ≡ recordOf s → r ≡ Whole f n → (0 < n) × (n ≤ length s)

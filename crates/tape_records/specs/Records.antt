@@ -17,16 +17,16 @@ use Rattle.tape_records.specs.declared.records.Record.{Record}
 use Rattle.tape_records.specs.declared.records.Record.the-variants.{Whole, Broken}
 
 -- the greatest values: out of range are a byte above 255 and a page above 1; an address or an offset is any number
-abbrev pub byte : ℕ
-byte = 255
+abbrev pub greatestByte : ℕ
+greatestByte = 255
 
 -- .. of a page
-abbrev pub page : ℕ
-page = 1
+abbrev pub greatestPage : ℕ
+greatestPage = 1
 
 -- .. of an address or an offset: "at most 2^32 - 1"
-abbrev pub number : ℕ
-number = limit32 - 1
+abbrev pub greatestNumber : ℕ
+greatestNumber = limit32 - 1
 
 -- the arguments of operations 0 to 8, by their greatest values
 unfoldable pub arguments : List (List ℕ)
@@ -34,11 +34,11 @@ arguments =
     -- reset both
     []
     -- GC address, data; sequencer address, data
-    ∷ (byte ∷ []) ∷ (byte ∷ []) ∷ (byte ∷ []) ∷ (byte ∷ [])
+    ∷ (greatestByte ∷ []) ∷ (greatestByte ∷ []) ∷ (greatestByte ∷ []) ∷ (greatestByte ∷ [])
     -- read, write, peek
-    ∷ (number ∷ page ∷ []) ∷ (number ∷ page ∷ byte ∷ []) ∷ (number ∷ page ∷ [])
+    ∷ (greatestNumber ∷ greatestPage ∷ []) ∷ (greatestNumber ∷ greatestPage ∷ greatestByte ∷ []) ∷ (greatestNumber ∷ greatestPage ∷ [])
     -- show
-    ∷ (number ∷ []) ∷ []
+    ∷ (greatestNumber ∷ []) ∷ []
 
 -- the greatest value of an operation's argument at a place, 0 where it has none
 unfoldable pub greatestOf : ℕ → ℕ → ℕ
@@ -61,22 +61,22 @@ commandOf operation a b c = getD
     operation Reset
 
 -- a good argument goes on to the next, a bad one ends the record
-unfoldable pub next : ℕ → Argument → (ℕ → ℕ → Record) → Record
-next operation (Good v n) then = then v n
-next operation (Bad f) then = Broken (Was operation) f
+unfoldable pub goesOn : ℕ → Argument → (ℕ → ℕ → Record) → Record
+goesOn operation (Good v n) then = then v n
+goesOn operation (Bad f) then = Broken (Was operation) f
 
 -- the rest of a record from a count of its bytes on: the third argument and the whole record
 unfoldable pub thirdOf : List ℕ → ℕ → ℕ → ℕ → ℕ → Record
-thirdOf s operation a b at = next operation (argumentOf (greatestOf operation 2) (drop at s)) λ c n. Whole (commandOf operation a b c) (at + n)
+thirdOf s operation a b at = goesOn operation (argumentOf (greatestOf operation 2) (drop at s)) λ c n. Whole (commandOf operation a b c) (at + n)
 
 -- .. the second argument and what follows
 unfoldable pub secondOf : List ℕ → ℕ → ℕ → ℕ → Record
-secondOf s operation a at = next operation (argumentOf (greatestOf operation 1) (drop at s)) λ b n. thirdOf s operation a b (at + n)
+secondOf s operation a at = goesOn operation (argumentOf (greatestOf operation 1) (drop at s)) λ b n. thirdOf s operation a b (at + n)
 
 -- .. the first argument and what follows; out of range is an operation above 8
 unfoldable pub firstOf : List ℕ → ℕ → ℕ → Record
 firstOf s operation at = pick (leb operation 8)
-    (next operation (argumentOf (greatestOf operation 0) (drop at s)) λ a n. secondOf s operation a (at + n))
+    (goesOn operation (argumentOf (greatestOf operation 0) (drop at s)) λ a n. secondOf s operation a (at + n))
     (Broken (Was operation) Range)
 
 -- a record whose operation's own number came to this

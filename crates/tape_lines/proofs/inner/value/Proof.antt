@@ -1,6 +1,6 @@
 -- `value` writes a byte, eight digits or 0: from the arm that was taken.
 use borrow.Author.Needs.{needs}
-use Rattle.tape_machine.specs.Lines.{valueOf}
+use Rattle.tape_machine.specs.Lines.{valueText}
 use Rattle.tape_lines.proofs.inner.value.Statement.{statement}
 use Rattle.tape_lines.proofs.inner.value.Tie as tie
 
@@ -11,7 +11,7 @@ cast-decimal : tie.Need-cast-decimal
 cast-decimal c = search needs
 
 decimal-requires : tie.Need-decimal-requires
-unfolding valueOf
+unfolding valueText
 decimal-requires c κs =
     let h = c .before .before .before .before .before .pre in rw (c .before .before .handed .given .1) at h
 
@@ -19,7 +19,7 @@ enum-known-handed-2 : tie.Need-enum-known-handed-2
 enum-known-handed-2 c = search needs
 
 eight-digits-requires : tie.Need-eight-digits-requires
-unfolding valueOf
+unfolding valueText
 eight-digits-requires c κs =
     let h = c .before .before .before .before .before .pre in rw (c .before .before .handed2 .given .1) at h
 
@@ -27,7 +27,7 @@ enum-told : tie.Need-enum-told
 enum-told c = search needs
 
 decimal-requires-2 : tie.Need-decimal-requires-2
-unfolding valueOf
+unfolding valueText
 decimal-requires-2 c κs =
     let h = c .before .before .before .before .pre in rw (c .before .enum-told .given .1) at h
 
@@ -35,7 +35,7 @@ same-length : tie.Need-same-length
 same-length c = search needs
 
 returns : tie.Need-returns
-unfolding valueOf
+unfolding valueText
 returns c =
     rw (c .before .before .before .before .before .handed .given .1) (c .before .before .decimal .ensures)
 
@@ -43,7 +43,7 @@ same-length-2 : tie.Need-same-length-2
 same-length-2 c = search needs
 
 returns-2 : tie.Need-returns-2
-unfolding valueOf
+unfolding valueText
 returns-2 c =
     rw (c .before .before .before .before .before .handed2 .given .1) (c .before .before .eight-digits .ensures)
 
@@ -51,7 +51,7 @@ same-length-3 : tie.Need-same-length-3
 same-length-3 c = search needs
 
 returns-3 : tie.Need-returns-3
-unfolding valueOf
+unfolding valueText
 returns-3 c =
     rw (c .before .before .before .before .enum-told .given .1) (c .before .before .decimal2 .ensures)
 

@@ -3,7 +3,7 @@ use borrow.Author.Needs.{needs}
 use borrow.Author.Tests.{lt-leb}
 use mathlib.Core.Path.{_∙_}
 use native.Mathlib.Omega.{arith}
-use Rattle.tape_records.specs.Records.{next, firstOf}
+use Rattle.tape_records.specs.Records.{goesOn, firstOf}
 use Rattle.tape_records.proofs.Judging.{first-so}
 use Rattle.tape_records.proofs.Sizes.{argument-fits}
 use Rattle.tape_records.proofs.records.first_argument.Statement.{statement}
@@ -45,12 +45,12 @@ second-argument-requires c κs =
     let h = argument-fits _ _ _ (c .before .before .before .before .before .before .before .pre) (c .before .before .before .read-argument .ensures) (c .before .value .given .1) in (c .before .before .before .before .before .if1 .left, rw (c .before .before .before .before .greatest .ensures) at (h .0), omega (arith, h .1))
 
 returns-2 : tie.Need-returns-2
-unfolding next
+unfolding goesOn
 returns-2 c =
     c .broken2 .ensures ∙ first-so (c .before .before .before .before .before .before .before .before .args .tape .now) (c .before .before .before .before .before .before .before .before .args .from) (c .before .before .before .before .before .before .before .before .args .operation) (c .before .before .before .before .before .before .before .before .args .at) (c .before .before .before .before .before .before .if1 .left) (c .before .before .before .before .before .greatest .ensures) (c .before .before .before .before .read-argument .ensures) (c .before .before .fault .given .1)
 
 returns-3 : tie.Need-returns-3
-unfolding next
+unfolding goesOn
 returns-3 c =
     c .second-argument .ensures ∙ first-so (c .before .before .before .before .before .before .before .before .args .tape .now) (c .before .before .before .before .before .before .before .before .args .from) (c .before .before .before .before .before .before .before .before .args .operation) (c .before .before .before .before .before .before .before .before .args .at) (c .before .before .before .before .before .before .if1 .left) (c .before .before .before .before .before .greatest .ensures) (c .before .before .before .before .read-argument .ensures) (c .before .before .value .given .1)
 

@@ -2,7 +2,7 @@
 use borrow.Author.Needs.{needs}
 use mathlib.Core.Path.{_∙_}
 use native.Mathlib.Omega.{arith}
-use Rattle.tape_records.specs.Records.{next}
+use Rattle.tape_records.specs.Records.{goesOn}
 use Rattle.tape_records.proofs.Judging.{second-so}
 use Rattle.tape_records.proofs.Sizes.{argument-fits}
 use Rattle.tape_records.proofs.records.second_argument.Statement.{statement}
@@ -36,12 +36,12 @@ third-argument-requires c κs =
     let h = argument-fits _ _ _ (c .before .before .before .before .before .before .pre .2) (c .before .before .before .read-argument .ensures) (c .before .value .given .1) in (c .before .before .before .before .before .before .pre .0, c .before .before .before .before .before .before .pre .1, rw (c .before .before .before .before .greatest .ensures) at (h .0), omega (arith, h .1))
 
 returns : tie.Need-returns
-unfolding next
+unfolding goesOn
 returns c =
     c .broken .ensures ∙ second-so (c .before .before .before .before .before .before .before .args .tape .now) (c .before .before .before .before .before .before .before .args .from) (c .before .before .before .before .before .before .before .args .operation) (c .before .before .before .before .before .before .before .args .a) (c .before .before .before .before .before .before .before .args .at) (c .before .before .before .before .before .greatest .ensures) (c .before .before .before .before .read-argument .ensures) (c .before .before .fault .given .1)
 
 returns-2 : tie.Need-returns-2
-unfolding next
+unfolding goesOn
 returns-2 c =
     c .third-argument .ensures ∙ second-so (c .before .before .before .before .before .before .before .args .tape .now) (c .before .before .before .before .before .before .before .args .from) (c .before .before .before .before .before .before .before .args .operation) (c .before .before .before .before .before .before .before .args .a) (c .before .before .before .before .before .before .before .args .at) (c .before .before .before .before .before .greatest .ensures) (c .before .before .before .before .read-argument .ensures) (c .before .before .value .given .1)
 

@@ -3,7 +3,7 @@ use Prim.Native.Nat.{_+_}
 use borrow.Author.Needs.{needs}
 use mathlib.Core.Path.{_∙_, ap}
 use native.Mathlib.Omega.{arith}
-use Rattle.tape_records.specs.Records.{next}
+use Rattle.tape_records.specs.Records.{goesOn}
 use Rattle.tape_records.specs.declared.records.Command.{Command}
 use Rattle.tape_records.specs.declared.records.Record.the-variants.{Whole}
 use Rattle.tape_records.proofs.Judging.{third-so}
@@ -39,12 +39,12 @@ add-t15 c =
     let h = argument-fits _ _ _ (c .before .before .before .before .before .before .before .pre .3) (c .before .before .before .before .read-argument .ensures) (c .before .before .value .given .1) in omega (arith, h .1)
 
 returns : tie.Need-returns
-unfolding next
+unfolding goesOn
 returns c =
     c .broken .ensures ∙ third-so (c .before .before .before .before .before .before .before .args .tape .now) (c .before .before .before .before .before .before .before .args .from) (c .before .before .before .before .before .before .before .args .operation) (c .before .before .before .before .before .before .before .args .a) (c .before .before .before .before .before .before .before .args .b) (c .before .before .before .before .before .before .before .args .at) (c .before .before .before .before .before .greatest .ensures) (c .before .before .before .before .read-argument .ensures) (c .before .before .fault .given .1)
 
 returns-2 : tie.Need-returns-2
-unfolding next
+unfolding goesOn
 returns-2 c =
     ap (λ (x : Command). Whole x (c .before .before .before .before .before .before .before .args .at + c .before .before .value .given .0 .1 .0)) (c .commanded .ensures) ∙ third-so (c .before .before .before .before .before .before .before .args .tape .now) (c .before .before .before .before .before .before .before .args .from) (c .before .before .before .before .before .before .before .args .operation) (c .before .before .before .before .before .before .before .args .a) (c .before .before .before .before .before .before .before .args .b) (c .before .before .before .before .before .before .before .args .at) (c .before .before .before .before .before .greatest .ensures) (c .before .before .before .before .read-argument .ensures) (c .before .before .value .given .1)
 

@@ -1,0 +1,72 @@
+-- `run_from_start` lends `run` the start's memory and records: what `run` ensures there, less the memory, which ends with the call.
+use Prim.Native.Nat.{ℕ}
+use mathlib.Core.Path.{_≡_, refl, ap, sym}
+use mathlib.Core.List.{List}
+use borrow.Author.Needs.{needs}
+use lib.ListN.{length-replicate}
+use Rattle.types.specs.Start.{freshGc, freshSeq}
+use Rattle.types.specs.declared.graphics.GraphicsController.{GraphicsController}
+use Rattle.types.specs.declared.sequencer.Sequencer.{Sequencer}
+use Rattle.machine.specs.Memory.{Memory}
+use Rattle.machine.specs.Step.{state}
+use Rattle.tape_machine.specs.declared.ran.Ran.{Ran}
+use Rattle.tape_machine.specs.Run.{TapeRun, tapeRun, runOf}
+use Rattle.tape_machine.specs.Program.{tapeStart, printed, printedOf}
+use Rattle.tape_reader.proofs.program.run_from_start.Statement.{statement}
+use Rattle.tape_reader.proofs.program.run_from_start.Tie as tie
+
+from-start : (tape out : List ℕ) {out′ : List ℕ} {r : Ran} {g : GraphicsController} {s : Sequencer} (m : Memory) {m′ : Memory} → g ≡ freshGc → s ≡ freshSeq
+    → tapeRun r m′ out′ ≡ runOf tape (state g s m) out → m ≡ tapeStart .memory → printed r out′ ≡ printedOf tape out
+unfolding tapeStart printedOf
+from-start tape out m e f p q = ap (λ (o : TapeRun). printed (o .ran) (o .out)) (rw (e, f, q) at p)
+
+new-requires : tie.Need-new-requires
+new-requires c κs = search needs
+
+new-requires-2 : tie.Need-new-requires-2
+new-requires-2 c κs = search needs
+
+slice-aggregate-run : tie.Need-slice-aggregate-run
+slice-aggregate-run c = sym (length-replicate {0} {A = ℕ} _ 0)
+
+slice-aggregate-run-2 : tie.Need-slice-aggregate-run-2
+slice-aggregate-run-2 c = sym (length-replicate {0} {A = ℕ} _ 0)
+
+slice-aggregate-run-3 : tie.Need-slice-aggregate-run-3
+slice-aggregate-run-3 c = sym (length-replicate {0} {A = ℕ} _ 0)
+
+slice-aggregate-run-4 : tie.Need-slice-aggregate-run-4
+slice-aggregate-run-4 c = sym (length-replicate {0} {A = ℕ} _ 0)
+
+slice-aggregate-run-5 : tie.Need-slice-aggregate-run-5
+slice-aggregate-run-5 c = sym (length-replicate {0} {A = ℕ} _ 0)
+
+run-requires : tie.Need-run-requires
+run-requires c κs = search needs
+
+same-length : tie.Need-same-length
+same-length c = search needs
+
+returns : tie.Need-returns
+unfolding tapeStart
+returns c =
+    let at-run = c .before .before .before .before .before .before .before in
+    let at-seq = at-run .before .before .before .before .before .before .before in
+    let at-gc = at-seq .before in
+    let start = at-gc .before .before .before in
+    from-start (start .args .tape .now) (start .args .out .now) _ (at-gc .new .ensures) (at-seq .new2 .ensures) (at-run .run .ensures) refl
+
+pub run-from-start-spec : {M : Type 1} → statement M
+run-from-start-spec =
+    tie.close
+    (tie.spec
+    new-requires
+    new-requires-2
+    slice-aggregate-run
+    slice-aggregate-run-2
+    slice-aggregate-run-3
+    slice-aggregate-run-4
+    slice-aggregate-run-5
+    run-requires
+    same-length
+    returns)
