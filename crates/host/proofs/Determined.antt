@@ -26,7 +26,7 @@ use Rattle.answers.proofs.Told.{answer-is, pixel-is, clock-is, mapped-is}
 use Rattle.host_records.specs.declared.record.ControllerRecord.{ControllerRecord}
 use Rattle.host_records.specs.declared.record.SequencerRecord.{SequencerRecord}
 use Rattle.host_records.specs.declared.left.SequencerAnswer.{SequencerAnswer}
-use Rattle.host_records.specs.Records.{controllerOf, recordOf}
+use Rattle.host_records.specs.Records.{isSet, controllerOf, controllerRecordOf}
 use Rattle.host_calls.specs.Hosted.{Held, held, graphicsHosted, cpuHosted}
 use Rattle.host.proofs.planes.iddesmar_vram_read_u8.Reads as vram-read-u8
 use Rattle.host.proofs.planes.iddesmar_vram_read_u8.Kinds as vram-read-u8-kinds
@@ -169,7 +169,7 @@ module _ (κs : Lfts 0) (a : Dens κs seq-reset-kinds.ps) where
 
 module _ (κs : Lfts 0) (a : Dens κs seq-clock-kinds.ps) where
   pub seq-clock-determined : (r r′ : Clock) (e e′ : AtExit (endedOf 0 seq-clock-kinds.ps seq-clock-kinds.r) κs) → seq-clock.Post κs a r e → seq-clock.Post κs a r′ e′ → r ≡ r′
-  seq-clock-determined r r′ e e′ p q = clock-is r r′ (answer-of p q)
+  seq-clock-determined r r′ e e′ p q = clock-is r r′ (p ∙ sym q)
 
 module _ (κs : Lfts 0) (a : Dens κs seq-set-clock-change-pending-kinds.ps) where
   pub seq-set-clock-change-pending-determined : (r r′ : SequencerAnswer) (e e′ : AtExit (endedOf 0 seq-set-clock-change-pending-kinds.ps seq-set-clock-change-pending-kinds.r) κs) → seq-set-clock-change-pending.Post κs a r e → seq-set-clock-change-pending.Post κs a r′ e′ → r ≡ r′
@@ -189,11 +189,11 @@ module _ (κs : Lfts 0) (a : Dens κs seq-write-data-kinds.ps) where
 
 module _ (κs : Lfts 0) (a : Dens κs seq-read-address-kinds.ps) where
   pub seq-read-address-determined : (r r′ : Answer) (e e′ : AtExit (endedOf 0 seq-read-address-kinds.ps seq-read-address-kinds.r) κs) → seq-read-address.Post κs a r e → seq-read-address.Post κs a r′ e′ → r ≡ r′
-  seq-read-address-determined r r′ e e′ p q = answer-is r r′ (answer-of p q)
+  seq-read-address-determined r r′ e e′ p q = answer-is r r′ (p ∙ sym q)
 
 module _ (κs : Lfts 0) (a : Dens κs seq-read-data-kinds.ps) where
   pub seq-read-data-determined : (r r′ : Answer) (e e′ : AtExit (endedOf 0 seq-read-data-kinds.ps seq-read-data-kinds.r) κs) → seq-read-data.Post κs a r e → seq-read-data.Post κs a r′ e′ → r ≡ r′
-  seq-read-data-determined r r′ e e′ p q = answer-is r r′ (answer-of p q)
+  seq-read-data-determined r r′ e e′ p q = answer-is r r′ (p ∙ sym q)
 
 -- ---- the sequencer's record and memory
 
@@ -281,7 +281,7 @@ module _ (κs : Lfts 5) (a : Dens κs gc-serialize-kinds.ps) where
 
 module _ {M : Type 1} (𝓤 : URA M) (H : Heap 𝓤) (A : Atoms 𝓤) (at-mem : Store → SProp 𝓤) (run : Routine → Fun 𝓤) (κs : Lfts 1) (a : Args gc-reset.signature κs) where
   abbrev gc-reset-post : Answer → AtExit gc-reset.ended κs → Type 0
-  gc-reset-post r e = outcome (answerSaid r) (now (e .0)) ≡ lifted recordOf (graphicsStep (controllerOf (now (a .0))) gcReset)
+  gc-reset-post r e = outcome (answerSaid r) (now (e .0)) ≡ lifted (controllerRecordOf (now (a .0) .spare)) (graphicsStep (controllerOf (now (a .0))) gcReset)
 
   gc-reset-reads : (r : Answer) (e : AtExit gc-reset.ended κs) → gc-reset.clauses 𝓤 H A at-mem run κs a .ensures tt r e ≡ fact 𝓤 (gc-reset-post r e)
   gc-reset-reads r e = refl
@@ -311,7 +311,7 @@ module _ {M : Type 1} (𝓤 : URA M) (H : Heap 𝓤) (A : Atoms 𝓤) (at-mem : 
 
 module _ {M : Type 1} (𝓤 : URA M) (H : Heap 𝓤) (A : Atoms 𝓤) (at-mem : Store → SProp 𝓤) (run : Routine → Fun 𝓤) (κs : Lfts 6) (a : Args gc-cpu-read-u8.signature κs) where
   abbrev gc-cpu-read-u8-post : Answer → AtExit gc-cpu-read-u8.ended κs → Type 0
-  gc-cpu-read-u8-post r e = outcome (answerSaid r) (held (now (e .0)) (lent (a .1 .1 .0) (a .1 .1 .1 .0) (a .1 .1 .1 .1 .0) (a .1 .1 .1 .1 .1 .0) (a .1 .1 .1 .1 .1 .1 .0))) ≡ cpuHosted (now (a .0)) (a .1 .0) (lent (a .1 .1 .0) (a .1 .1 .1 .0) (a .1 .1 .1 .1 .0) (a .1 .1 .1 .1 .1 .0) (a .1 .1 .1 .1 .1 .1 .0)) (one 0) (cpuRead (a .1 .1 .1 .1 .1 .1 .1 .0) (a .1 .1 .1 .1 .1 .1 .1 .1 .0))
+  gc-cpu-read-u8-post r e = outcome (answerSaid r) (held (now (e .0)) (lent (a .1 .1 .0) (a .1 .1 .1 .0) (a .1 .1 .1 .1 .0) (a .1 .1 .1 .1 .1 .0) (a .1 .1 .1 .1 .1 .1 .0))) ≡ cpuHosted (now (a .0)) (a .1 .0) (lent (a .1 .1 .0) (a .1 .1 .1 .0) (a .1 .1 .1 .1 .0) (a .1 .1 .1 .1 .1 .0) (a .1 .1 .1 .1 .1 .1 .0)) (one 0) (cpuRead (a .1 .1 .1 .1 .1 .1 .1 .0) (isSet (a .1 .1 .1 .1 .1 .1 .1 .1 .0)))
 
   gc-cpu-read-u8-reads : (r : Answer) (e : AtExit gc-cpu-read-u8.ended κs) → gc-cpu-read-u8.clauses 𝓤 H A at-mem run κs a .ensures tt r e ≡ fact 𝓤 (gc-cpu-read-u8-post r e)
   gc-cpu-read-u8-reads r e = refl
@@ -321,7 +321,7 @@ module _ {M : Type 1} (𝓤 : URA M) (H : Heap 𝓤) (A : Atoms 𝓤) (at-mem : 
 
 module _ {M : Type 1} (𝓤 : URA M) (H : Heap 𝓤) (A : Atoms 𝓤) (at-mem : Store → SProp 𝓤) (run : Routine → Fun 𝓤) (κs : Lfts 6) (a : Args gc-cpu-write-u8.signature κs) where
   abbrev gc-cpu-write-u8-post : Answer → AtExit gc-cpu-write-u8.ended κs → Type 0
-  gc-cpu-write-u8-post r e = outcome (answerSaid r) (held (now (e .0)) (lent (e .1 .1 .0) (e .1 .1 .1 .0) (e .1 .1 .1 .1 .0) (e .1 .1 .1 .1 .1 .0) (e .1 .1 .1 .1 .1 .1 .0))) ≡ cpuHosted (now (a .0)) (a .1 .0) (lent (a .1 .1 .0) (a .1 .1 .1 .0) (a .1 .1 .1 .1 .0) (a .1 .1 .1 .1 .1 .0) (a .1 .1 .1 .1 .1 .1 .0)) (one 0) (cpuWrite (a .1 .1 .1 .1 .1 .1 .1 .0) (a .1 .1 .1 .1 .1 .1 .1 .1 .0) (a .1 .1 .1 .1 .1 .1 .1 .1 .1 .0))
+  gc-cpu-write-u8-post r e = outcome (answerSaid r) (held (now (e .0)) (lent (e .1 .1 .0) (e .1 .1 .1 .0) (e .1 .1 .1 .1 .0) (e .1 .1 .1 .1 .1 .0) (e .1 .1 .1 .1 .1 .1 .0))) ≡ cpuHosted (now (a .0)) (a .1 .0) (lent (a .1 .1 .0) (a .1 .1 .1 .0) (a .1 .1 .1 .1 .0) (a .1 .1 .1 .1 .1 .0) (a .1 .1 .1 .1 .1 .1 .0)) (one 0) (cpuWrite (a .1 .1 .1 .1 .1 .1 .1 .0) (isSet (a .1 .1 .1 .1 .1 .1 .1 .1 .0)) (a .1 .1 .1 .1 .1 .1 .1 .1 .1 .0))
 
   gc-cpu-write-u8-reads : (r : Answer) (e : AtExit gc-cpu-write-u8.ended κs) → gc-cpu-write-u8.clauses 𝓤 H A at-mem run κs a .ensures tt r e ≡ fact 𝓤 (gc-cpu-write-u8-post r e)
   gc-cpu-write-u8-reads r e = refl
