@@ -4,7 +4,7 @@
  * Memory is lent for the length of a call: four planes of n bytes each, 1 to 65,536, and a picture of 8n bytes, one for each pixel. Each pointer
  * must be good for as many bytes as are said beside it, and the five must overlap neither one another nor a record; the library reads and writes
  * nothing else and keeps nothing. No pointer may be null, one with a length of 0 included, and that to a record must be aligned as C aligns the
- * record (4 bytes). A `bool` must be 0 or 1. */
+ * record (4 bytes). A flag that is handed in (the pending mark, a0, page) is a number: 0 is clear, any other is set. */
 #ifndef IDDESMAR_H
 #define IDDESMAR_H
 
@@ -29,10 +29,8 @@ typedef __SIZE_TYPE__ size_t;
 
 #ifdef __cplusplus
 extern "C" {
-#define IDDESMAR_BOOL bool
 #define IDDESMAR_ASSERT(fact) static_assert(fact, #fact)
 #else
-#define IDDESMAR_BOOL _Bool
 #define IDDESMAR_ASSERT(fact) _Static_assert(fact, #fact)
 #endif
 
@@ -58,7 +56,8 @@ typedef struct iddesmar_stats {
     uint32_t mode_1_reads;
 } iddesmar_stats;
 
-/* The graphics controller: counters, the address, the selected register's number (0 to 8), nine registers, four latches. */
+/* The graphics controller: counters, the address, the selected register's number (0 to 8), nine registers, four latches, and a byte of the host's own.
+ * Each of the 40 bytes is a field's: a refused call leaves all of them, and every call leaves `spare`, whatever it holds; `iddesmar_gc_new` gives 0 there. */
 typedef struct iddesmar_gc {
     iddesmar_stats stats;
     uint8_t register_select_byte;
@@ -73,9 +72,11 @@ typedef struct iddesmar_gc {
     uint8_t color_dont_care;
     uint8_t bitmask;
     uint8_t latches[4];
+    uint8_t spare;
 } iddesmar_gc;
 
-/* The sequencer: the address, the selected register's number (0 to 5, 5 being none), five registers, the pending mark and the clock. */
+/* The sequencer: the address, the selected register's number (0 to 5, 5 being none), five registers, the pending mark and the clock. Each of the 16 bytes is a
+ * field's. A refused call hands the record back as it came, the mark's number included; an accepted one leaves a mark of 0 or 1. */
 typedef struct iddesmar_seq {
     uint8_t address_byte;
     uint8_t register_selected;
@@ -84,10 +85,12 @@ typedef struct iddesmar_seq {
     uint8_t map_mask;
     uint8_t character_map_select;
     uint8_t memory_mode;
-    IDDESMAR_BOOL clock_change_pending;
+    uint8_t clock_change_pending;
     uint32_t clock_divisor;
     uint32_t char_clock;
 } iddesmar_seq;
+
+/* Answers. What lies between or behind the fields of one (bytes 5 to 7 of iddesmar_clock, 10 to 15 of iddesmar_mapped, 2 and 3 of iddesmar_seq_answer) says nothing. */
 
 /* A byte, a pixel, a mark (0 or 1), an enum's place in its order; 0 where a call hands nothing back. */
 typedef struct iddesmar_answer {
@@ -123,6 +126,7 @@ IDDESMAR_ASSERT(sizeof(iddesmar_gc) == 40);
 IDDESMAR_ASSERT(offsetof(iddesmar_gc, register_select_byte) == 24);
 IDDESMAR_ASSERT(offsetof(iddesmar_gc, bitmask) == 34);
 IDDESMAR_ASSERT(offsetof(iddesmar_gc, latches) == 35);
+IDDESMAR_ASSERT(offsetof(iddesmar_gc, spare) == 39);
 IDDESMAR_ASSERT(sizeof(iddesmar_seq) == 16);
 IDDESMAR_ASSERT(offsetof(iddesmar_seq, clock_change_pending) == 7);
 IDDESMAR_ASSERT(offsetof(iddesmar_seq, clock_divisor) == 8);
@@ -153,11 +157,11 @@ iddesmar_gc iddesmar_gc_new(void);
 iddesmar_answer iddesmar_gc_reset(iddesmar_gc *gc);
 iddesmar_answer iddesmar_gc_write_address(iddesmar_gc *gc, uint8_t byte);
 iddesmar_answer iddesmar_gc_write_data(iddesmar_gc *gc, uint8_t byte);
-iddesmar_answer iddesmar_gc_cpu_read_u8(iddesmar_gc *gc, iddesmar_seq seq, IDDESMAR_SEEN, size_t address, IDDESMAR_BOOL page);
-iddesmar_answer iddesmar_gc_cpu_write_u8(iddesmar_gc *gc, iddesmar_seq seq, IDDESMAR_LENT, size_t address, IDDESMAR_BOOL page, uint8_t byte);
-iddesmar_answer iddesmar_gc_cpu_peek_u8(iddesmar_gc gc, iddesmar_seq seq, IDDESMAR_SEEN, size_t address, IDDESMAR_BOOL page);
+iddesmar_answer iddesmar_gc_cpu_read_u8(iddesmar_gc *gc, iddesmar_seq seq, IDDESMAR_SEEN, size_t address, uint8_t page);
+iddesmar_answer iddesmar_gc_cpu_write_u8(iddesmar_gc *gc, iddesmar_seq seq, IDDESMAR_LENT, size_t address, uint8_t page, uint8_t byte);
+iddesmar_answer iddesmar_gc_cpu_peek_u8(iddesmar_gc gc, iddesmar_seq seq, IDDESMAR_SEEN, size_t address, uint8_t page);
 iddesmar_shown iddesmar_gc_serialize(iddesmar_gc gc, iddesmar_seq seq, IDDESMAR_SEEN, size_t offset);
-iddesmar_mapped iddesmar_gc_map_address(iddesmar_gc gc, size_t address, IDDESMAR_BOOL page);
+iddesmar_mapped iddesmar_gc_map_address(iddesmar_gc gc, size_t address, uint8_t page);
 iddesmar_answer iddesmar_gc_read_address(iddesmar_gc gc);
 iddesmar_answer iddesmar_gc_read_data(iddesmar_gc gc);
 iddesmar_answer iddesmar_gc_chain(iddesmar_gc gc);
@@ -177,14 +181,14 @@ iddesmar_answer iddesmar_seq_read_address(iddesmar_seq seq);
 iddesmar_answer iddesmar_seq_read_data(iddesmar_seq seq);
 iddesmar_seq_answer iddesmar_seq_write_address(iddesmar_seq seq, uint8_t byte);
 iddesmar_seq_answer iddesmar_seq_write_data(iddesmar_seq seq, uint8_t byte);
-iddesmar_answer iddesmar_seq_cpu_read_u8(iddesmar_seq seq, IDDESMAR_SEEN, size_t plane, size_t offset, IDDESMAR_BOOL a0);
-iddesmar_answer iddesmar_seq_peek_u8(iddesmar_seq seq, IDDESMAR_SEEN, size_t plane, size_t offset, IDDESMAR_BOOL a0);
-iddesmar_answer iddesmar_seq_gc_read_u8(iddesmar_seq seq, IDDESMAR_SEEN, size_t plane, size_t offset, IDDESMAR_BOOL a0);
+iddesmar_answer iddesmar_seq_cpu_read_u8(iddesmar_seq seq, IDDESMAR_SEEN, size_t plane, size_t offset, uint8_t a0);
+iddesmar_answer iddesmar_seq_peek_u8(iddesmar_seq seq, IDDESMAR_SEEN, size_t plane, size_t offset, uint8_t a0);
+iddesmar_answer iddesmar_seq_gc_read_u8(iddesmar_seq seq, IDDESMAR_SEEN, size_t plane, size_t offset, uint8_t a0);
 iddesmar_answer iddesmar_seq_read_linear(iddesmar_seq seq, IDDESMAR_SEEN, size_t place);
 iddesmar_shown iddesmar_seq_serialize_linear(iddesmar_seq seq, IDDESMAR_SEEN, size_t offset);
-iddesmar_answer iddesmar_seq_plane_set(iddesmar_seq seq, IDDESMAR_LENT, size_t plane, size_t offset, IDDESMAR_BOOL a0, uint8_t byte);
-iddesmar_answer iddesmar_seq_plane_and(iddesmar_seq seq, IDDESMAR_LENT, size_t plane, size_t offset, IDDESMAR_BOOL a0, uint8_t byte);
-iddesmar_answer iddesmar_seq_plane_or(iddesmar_seq seq, IDDESMAR_LENT, size_t plane, size_t offset, IDDESMAR_BOOL a0, uint8_t byte);
+iddesmar_answer iddesmar_seq_plane_set(iddesmar_seq seq, IDDESMAR_LENT, size_t plane, size_t offset, uint8_t a0, uint8_t byte);
+iddesmar_answer iddesmar_seq_plane_and(iddesmar_seq seq, IDDESMAR_LENT, size_t plane, size_t offset, uint8_t a0, uint8_t byte);
+iddesmar_answer iddesmar_seq_plane_or(iddesmar_seq seq, IDDESMAR_LENT, size_t plane, size_t offset, uint8_t a0, uint8_t byte);
 
 /* ---- memory alone */
 

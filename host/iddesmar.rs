@@ -115,6 +115,8 @@ pub struct ControllerRecord {
     pub color_dont_care: u8,
     pub bitmask: u8,
     pub latches: [u8; 4],
+    /// The host's own byte: every call leaves it as it is.
+    pub spare: u8,
 }
 
 /// The sequencer's record; the selected register by its number, 5 being none.
@@ -128,7 +130,8 @@ pub struct SequencerRecord {
     pub map_mask: u8,
     pub character_map_select: u8,
     pub memory_mode: u8,
-    pub clock_change_pending: bool,
+    /// 0 is clear, any other number set; an accepted call leaves 0 or 1.
+    pub clock_change_pending: u8,
     pub clock_divisor: u32,
     pub char_clock: u32,
 }
@@ -190,6 +193,7 @@ const _: () = {
     assert!(offset_of!(ControllerRecord, register_select_byte) == 24);
     assert!(offset_of!(ControllerRecord, bitmask) == 34);
     assert!(offset_of!(ControllerRecord, latches) == 35);
+    assert!(offset_of!(ControllerRecord, spare) == 39);
     assert!(size_of::<SequencerRecord>() == 16);
     assert!(offset_of!(SequencerRecord, clock_change_pending) == 7);
     assert!(offset_of!(SequencerRecord, clock_divisor) == 8);
@@ -215,18 +219,18 @@ type Seen = *const u8;
 type Lent = *mut u8;
 
 calls! {
-    fn iddesmar_gc_cpu_read_u8(&mut ControllerRecord, SequencerRecord; Seen, Seen; usize, bool) -> Answer;
-    fn iddesmar_gc_cpu_write_u8(&mut ControllerRecord, SequencerRecord; Lent, Lent; usize, bool, u8) -> Answer;
-    fn iddesmar_gc_cpu_peek_u8(ControllerRecord, SequencerRecord; Seen, Seen; usize, bool) -> Answer;
+    fn iddesmar_gc_cpu_read_u8(&mut ControllerRecord, SequencerRecord; Seen, Seen; usize, u8) -> Answer;
+    fn iddesmar_gc_cpu_write_u8(&mut ControllerRecord, SequencerRecord; Lent, Lent; usize, u8, u8) -> Answer;
+    fn iddesmar_gc_cpu_peek_u8(ControllerRecord, SequencerRecord; Seen, Seen; usize, u8) -> Answer;
     fn iddesmar_gc_serialize(ControllerRecord, SequencerRecord; Seen, Seen; usize) -> Shown;
-    fn iddesmar_seq_cpu_read_u8(SequencerRecord; Seen, Seen; usize, usize, bool) -> Answer;
-    fn iddesmar_seq_peek_u8(SequencerRecord; Seen, Seen; usize, usize, bool) -> Answer;
-    fn iddesmar_seq_gc_read_u8(SequencerRecord; Seen, Seen; usize, usize, bool) -> Answer;
+    fn iddesmar_seq_cpu_read_u8(SequencerRecord; Seen, Seen; usize, usize, u8) -> Answer;
+    fn iddesmar_seq_peek_u8(SequencerRecord; Seen, Seen; usize, usize, u8) -> Answer;
+    fn iddesmar_seq_gc_read_u8(SequencerRecord; Seen, Seen; usize, usize, u8) -> Answer;
     fn iddesmar_seq_read_linear(SequencerRecord; Seen, Seen; usize) -> Answer;
     fn iddesmar_seq_serialize_linear(SequencerRecord; Seen, Seen; usize) -> Shown;
-    fn iddesmar_seq_plane_set(SequencerRecord; Lent, Lent; usize, usize, bool, u8) -> Answer;
-    fn iddesmar_seq_plane_and(SequencerRecord; Lent, Lent; usize, usize, bool, u8) -> Answer;
-    fn iddesmar_seq_plane_or(SequencerRecord; Lent, Lent; usize, usize, bool, u8) -> Answer;
+    fn iddesmar_seq_plane_set(SequencerRecord; Lent, Lent; usize, usize, u8, u8) -> Answer;
+    fn iddesmar_seq_plane_and(SequencerRecord; Lent, Lent; usize, usize, u8, u8) -> Answer;
+    fn iddesmar_seq_plane_or(SequencerRecord; Lent, Lent; usize, usize, u8, u8) -> Answer;
     fn iddesmar_vram_read_u8(; Seen, Seen; usize, usize) -> Answer;
     fn iddesmar_vram_peek_u8(; Seen, Seen; usize, usize) -> Answer;
     fn iddesmar_vram_read_glyph(; Seen, Seen; usize) -> Answer;
@@ -251,7 +255,7 @@ extern "C" {
     fn iddesmar_gc_memory_map(gc: ControllerRecord) -> Answer;
     fn iddesmar_gc_odd_even(gc: ControllerRecord) -> Answer;
     fn iddesmar_gc_shift_mode(gc: ControllerRecord) -> Answer;
-    fn iddesmar_gc_map_address(gc: ControllerRecord, address: usize, page: bool) -> Mapped;
+    fn iddesmar_gc_map_address(gc: ControllerRecord, address: usize, page: u8) -> Mapped;
     fn iddesmar_seq_new() -> SequencerRecord;
     fn iddesmar_seq_reset(seq: SequencerRecord) -> SequencerAnswer;
     fn iddesmar_seq_clock(seq: SequencerRecord) -> Clock;
@@ -460,15 +464,15 @@ impl<B: AsRef<[u8]> + AsMut<[u8]>> Sequencer<B> {
     }
 
     pub fn cpu_read_u8(&self, plane: usize, offset: usize, a0: bool) -> Result<u8, Refusal> {
-        seen!(iddesmar_seq_cpu_read_u8(self.record; self.vram; plane, offset, a0)).byte()
+        seen!(iddesmar_seq_cpu_read_u8(self.record; self.vram; plane, offset, a0 as u8)).byte()
     }
 
     pub fn gc_read_u8(&self, plane: usize, offset: usize, a0: bool) -> Result<u8, Refusal> {
-        seen!(iddesmar_seq_gc_read_u8(self.record; self.vram; plane, offset, a0)).byte()
+        seen!(iddesmar_seq_gc_read_u8(self.record; self.vram; plane, offset, a0 as u8)).byte()
     }
 
     pub fn peek_u8(&self, plane: usize, offset: usize, a0: bool) -> Result<u8, Refusal> {
-        seen!(iddesmar_seq_peek_u8(self.record; self.vram; plane, offset, a0)).byte()
+        seen!(iddesmar_seq_peek_u8(self.record; self.vram; plane, offset, a0 as u8)).byte()
     }
 
     pub fn read_linear(&self, place: usize) -> Result<u8, Refusal> {
@@ -481,15 +485,15 @@ impl<B: AsRef<[u8]> + AsMut<[u8]>> Sequencer<B> {
     }
 
     pub fn plane_set(&mut self, plane: usize, offset: usize, a0: bool, data: u8) -> Result<(), Refusal> {
-        lent!(iddesmar_seq_plane_set(self.record; self.vram; plane, offset, a0, data)).done()
+        lent!(iddesmar_seq_plane_set(self.record; self.vram; plane, offset, a0 as u8, data)).done()
     }
 
     pub fn plane_and(&mut self, plane: usize, offset: usize, a0: bool, data: u8) -> Result<(), Refusal> {
-        lent!(iddesmar_seq_plane_and(self.record; self.vram; plane, offset, a0, data)).done()
+        lent!(iddesmar_seq_plane_and(self.record; self.vram; plane, offset, a0 as u8, data)).done()
     }
 
     pub fn plane_or(&mut self, plane: usize, offset: usize, a0: bool, data: u8) -> Result<(), Refusal> {
-        lent!(iddesmar_seq_plane_or(self.record; self.vram; plane, offset, a0, data)).done()
+        lent!(iddesmar_seq_plane_or(self.record; self.vram; plane, offset, a0 as u8, data)).done()
     }
 }
 
@@ -566,20 +570,20 @@ impl GraphicsController {
 
     /// The plane offset and a0.
     pub fn map_address(&self, address: usize, page_select: PageSelect) -> Result<(usize, bool), Refusal> {
-        let mapped = asked!(iddesmar_gc_map_address(self.record, address, page_select == PageSelect::HighPage));
+        let mapped = asked!(iddesmar_gc_map_address(self.record, address, page_select as u8));
         judged(mapped.number, (mapped.offset, mapped.a0 != 0))
     }
 
     pub fn cpu_read_u8<B: AsRef<[u8]> + AsMut<[u8]>>(&mut self, seq: &Sequencer<B>, address: usize, page_select: PageSelect) -> Result<u8, Refusal> {
-        seen!(iddesmar_gc_cpu_read_u8(&mut self.record, seq.record; seq.vram; address, page_select == PageSelect::HighPage)).byte()
+        seen!(iddesmar_gc_cpu_read_u8(&mut self.record, seq.record; seq.vram; address, page_select as u8)).byte()
     }
 
     pub fn cpu_peek_u8<B: AsRef<[u8]> + AsMut<[u8]>>(&self, seq: &Sequencer<B>, address: usize, page_select: PageSelect) -> Result<u8, Refusal> {
-        seen!(iddesmar_gc_cpu_peek_u8(self.record, seq.record; seq.vram; address, page_select == PageSelect::HighPage)).byte()
+        seen!(iddesmar_gc_cpu_peek_u8(self.record, seq.record; seq.vram; address, page_select as u8)).byte()
     }
 
     pub fn cpu_write_u8<B: AsRef<[u8]> + AsMut<[u8]>>(&mut self, seq: &mut Sequencer<B>, address: usize, page_select: PageSelect, byte: u8) -> Result<(), Refusal> {
-        lent!(iddesmar_gc_cpu_write_u8(&mut self.record, seq.record; seq.vram; address, page_select == PageSelect::HighPage, byte)).done()
+        lent!(iddesmar_gc_cpu_write_u8(&mut self.record, seq.record; seq.vram; address, page_select as u8, byte)).done()
     }
 
     /// The eight pixels of a plane offset.

@@ -175,12 +175,12 @@ static void list(void) {
 
 /* ---- the layout: the library finds each field where C has it, and touches nothing beside a record */
 
-static int wrong;
+static int wrong; /* how often; the first 20 are told */
 
 static void expect(const char *what, u64 is, u64 should) {
     if (is == should) return;
-    printf("layout: %s is %llu, not %llu\n", what, is, should);
-    wrong = 1;
+    if (wrong < 20) printf("layout: %s is %llu, not %llu\n", what, is, should);
+    wrong++;
 }
 
 typedef struct guarded {
@@ -259,6 +259,189 @@ static void unknown_registers(void) {
     expect("reset of register 6", iddesmar_seq_reset(seq).answer.number, IDDESMAR_DONE);
 }
 
+/* ---- refusals: every byte of a record stays, whatever it holds */
+
+/* A record of bytes that are told apart from one another, and the other for each seed; the spare byte and the mark take every number. */
+static void fill(void *record, size_t size, int seed) {
+    uint8_t *bytes = record;
+    for (size_t i = 0; i < size; i++) bytes[i] = (uint8_t)(seed + 37 * i);
+}
+
+static iddesmar_gc filled_gc(int seed) {
+    iddesmar_gc g;
+    fill(&g, sizeof g, seed);
+    return g;
+}
+
+static iddesmar_seq filled_seq(int seed) {
+    iddesmar_seq s;
+    fill(&s, sizeof s, seed);
+    s.clock_change_pending = (uint8_t)seed;
+    return s;
+}
+
+/* The same with no more in a register than it keeps; the window is A0000 for 64K, and an offset is the address less A0000. */
+static iddesmar_gc fitting_gc(int seed) {
+    iddesmar_gc g = filled_gc(seed);
+    g.register_select_byte %= 16;
+    g.register_selected %= 9;
+    g.set_reset %= 16;
+    g.enable_set_reset %= 16;
+    g.color_compare %= 16;
+    g.read_map_select %= 4;
+    g.color_dont_care %= 16;
+    g.miscellaneous = (uint8_t)(g.miscellaneous / 16 * 16 + 5);
+    return g;
+}
+
+static iddesmar_seq fitting_seq(int seed) {
+    iddesmar_seq s = filled_seq(seed);
+    s.register_selected %= 6;
+    s.reset %= 4;
+    s.clocking_mode %= 64;
+    s.map_mask %= 16;
+    s.character_map_select %= 64;
+    s.memory_mode %= 64;
+    return s;
+}
+
+static void same(const char *what, const void *is, const void *was, size_t size) {
+    const uint8_t *left = is, *given = was;
+    for (size_t i = 0; i < size; i++) expect(what, left[i], given[i]);
+}
+
+static void gc_refused(const char *what, iddesmar_answer a, unsigned number, const iddesmar_gc *left, iddesmar_gc given) {
+    expect(what, a.number, number);
+    expect(what, a.value, 0);
+    same(what, left, &given, sizeof given);
+}
+
+static void seq_refused(const char *what, iddesmar_seq_answer a, iddesmar_seq given) {
+    expect(what, a.answer.number, IDDESMAR_STATE);
+    expect(what, a.answer.value, 0);
+    same(what, &a.seq, &given, sizeof given);
+}
+
+/* An access of the processor that is refused with this number, as a read and as a write. */
+static void accesses_refused(unsigned number, iddesmar_gc given, iddesmar_seq s, iddesmar_memory m, size_t shorter, size_t address) {
+    iddesmar_gc left = given;
+    iddesmar_answer a = iddesmar_gc_cpu_read_u8(&left, s, m.planes[0], m.n, m.planes[1], m.n, m.planes[2], m.n, m.planes[3], m.n - shorter, m.picture, 8 * m.n, address, 1);
+    gc_refused("a refused read", a, number, &left, given);
+    a = iddesmar_gc_cpu_write_u8(&left, s, m.planes[0], m.n, m.planes[1], m.n, m.planes[2], m.n, m.planes[3], m.n - shorter, m.picture, 8 * m.n, address, 1, 0x3C);
+    gc_refused("a refused write", a, number, &left, given);
+}
+
+static void gc_unfit(iddesmar_gc given, iddesmar_seq s) {
+    iddesmar_gc left = given;
+    gc_refused("a refused write_address", iddesmar_gc_write_address(&left, 7), IDDESMAR_STATE, &left, given);
+    gc_refused("a refused write_data", iddesmar_gc_write_data(&left, 7), IDDESMAR_STATE, &left, given);
+    accesses_refused(IDDESMAR_STATE, given, s, memory, 0, 0xA0000);
+}
+
+static void seq_unfit(iddesmar_seq given) {
+    seq_refused("a refused write_address", iddesmar_seq_write_address(given, 7), given);
+    seq_refused("a refused write_data", iddesmar_seq_write_data(given, 7), given);
+    seq_refused("a refused set_clock_change_pending", iddesmar_seq_set_clock_change_pending(given), given);
+    seq_refused("a refused poll_clock_change", iddesmar_seq_poll_clock_change(given), given);
+    accesses_refused(IDDESMAR_STATE, fitting_gc(given.clock_change_pending), given, memory, 0, 0xA0000);
+}
+
+static void refusals(int seed) {
+    iddesmar_memory small = memory;
+    iddesmar_gc g = fitting_gc(seed);
+    iddesmar_seq s = fitting_seq(seed);
+    small.n = 16;
+    g.register_selected = (uint8_t)(9 + seed % 247); /* no register's number */
+    gc_unfit(g, s);
+    g = fitting_gc(seed);
+    g.set_reset += 16; /* more than the register keeps */
+    gc_unfit(g, s);
+    s.register_selected = (uint8_t)(6 + seed % 250);
+    seq_unfit(s);
+    s = fitting_seq(seed);
+    s.map_mask += 16;
+    seq_unfit(s);
+    g = fitting_gc(seed);
+    s = fitting_seq(seed);
+    accesses_refused(IDDESMAR_MEMORY, g, s, memory, 1, 0xA0000);
+    accesses_refused(IDDESMAR_WINDOW, g, s, memory, 0, 0x9FFFF);
+    accesses_refused(IDDESMAR_OFFSET, g, s, small, 0, 0xA0010);
+}
+
+/* ---- accepted calls: the spare byte stays, and the mark is 0 or 1 */
+
+static void spare_kept(const char *what, iddesmar_answer a, const iddesmar_gc *left, int seed) {
+    expect(what, a.number, IDDESMAR_DONE);
+    expect(what, left->spare, (uint8_t)(seed + 37 * 39));
+}
+
+static void marked(const char *what, iddesmar_seq_answer a, unsigned value, unsigned mark) {
+    expect(what, a.answer.number, IDDESMAR_DONE);
+    expect(what, a.answer.value, value);
+    expect(what, a.seq.clock_change_pending, mark);
+}
+
+static void acceptances(int seed) {
+    unsigned set = seed != 0;
+    iddesmar_gc g = fitting_gc(seed);
+    iddesmar_seq s = fitting_seq(seed);
+    spare_kept("spare after a read", iddesmar_gc_cpu_read_u8(&g, s, ALL, 0xA0000, 0), &g, seed);
+    spare_kept("spare after a write", iddesmar_gc_cpu_write_u8(&g, s, ALL, 0xA0000, 0, 0x3C), &g, seed);
+    spare_kept("spare after write_address", iddesmar_gc_write_address(&g, 8), &g, seed);
+    spare_kept("spare after write_data", iddesmar_gc_write_data(&g, 0x3C), &g, seed);
+    expect("bitmask", g.bitmask, 0x3C);
+    spare_kept("spare after reset", iddesmar_gc_reset(&g), &g, seed);
+    expect("bitmask after reset", g.bitmask, 0);
+    marked("the mark after write_address", iddesmar_seq_write_address(s, 2), 0, set);
+    s = iddesmar_seq_write_address(s, 2).seq;
+    s.clock_change_pending = (uint8_t)seed;
+    marked("the mark after data for Map Mask", iddesmar_seq_write_data(s, 15), 0, set);
+    marked("the mark, set", iddesmar_seq_set_clock_change_pending(s), 0, 1);
+    marked("the mark, polled", iddesmar_seq_poll_clock_change(s), set, 0);
+    marked("the mark after reset", iddesmar_seq_reset(s), 0, 0);
+}
+
+/* ---- flags: 0 is clear, any other number set */
+
+/* Under odd/even a0 chooses between planes 0 and 2 and planes 1 and 3. */
+static void store_flag(int flag) {
+    iddesmar_seq s = iddesmar_seq_new();
+    unsigned set = flag != 0;
+    s.map_mask = 15;
+    for (int i = 0; i < 4; i++) planes[i][5] = 0;
+    expect("plane_set", iddesmar_seq_plane_set(s, ALL, 1, 5, (uint8_t)flag, 0x81).number, IDDESMAR_DONE);
+    expect("plane 1 by a0", planes[1][5], set ? 0x81 : 0);
+    expect("plane_or", iddesmar_seq_plane_or(s, ALL, 0, 5, (uint8_t)flag, 0x42).number, IDDESMAR_DONE);
+    expect("plane 0 by a0", planes[0][5], set ? 0 : 0x42);
+    planes[3][5] = 0xFF;
+    expect("plane_and", iddesmar_seq_plane_and(s, ALL, 3, 5, (uint8_t)flag, 0x24).number, IDDESMAR_DONE);
+    expect("plane 3 by a0", planes[3][5], set ? 0x24 : 0xFF);
+    planes[0][5] = planes[1][5] = planes[3][5] = 0;
+    iddesmar_vram_deplane(ALL, 5);
+}
+
+/* A0000 for 64K with the chain bit set: bit 0 of the offset becomes the page bit. */
+static void page_flag(int flag) {
+    iddesmar_gc g = iddesmar_gc_new();
+    iddesmar_seq s = iddesmar_seq_new();
+    uint8_t page = (uint8_t)flag;
+    unsigned set = flag != 0;
+    g.miscellaneous = 7;
+    g.bitmask = 0xFF;
+    s.map_mask = 15;
+    s.memory_mode = 4;
+    iddesmar_mapped low = iddesmar_gc_map_address(g, 0xA0008, 0), here = iddesmar_gc_map_address(g, 0xA0008, page);
+    expect("map_address", here.number, IDDESMAR_DONE);
+    expect("offset by page", here.offset, low.offset + set);
+    planes[0][low.offset] = 0x11;
+    planes[0][low.offset + 1] = 0x22;
+    expect("a read by page", iddesmar_gc_cpu_read_u8(&g, s, ALL, 0xA0008, page).value, set ? 0x22 : 0x11);
+    expect("a peek by page", iddesmar_gc_cpu_peek_u8(g, s, ALL, 0xA0008, page).value, set ? 0x22 : 0x11);
+    expect("a write", iddesmar_gc_cpu_write_u8(&g, s, ALL, 0xA0008, page, 0x33).number, IDDESMAR_DONE);
+    expect("a byte of the low page", planes[0][low.offset], set ? 0x11 : 0x33);
+    expect("a byte of the high page", planes[0][low.offset + 1], set ? 0x33 : 0x22);
+}
+
 static int layout(void) {
     static guarded g;
     for (int i = 0; i < 32; i++) g.before[i] = g.after[i] = 0xEE;
@@ -268,8 +451,14 @@ static int layout(void) {
     for (int i = 0; i < 32; i++) expect("a byte beside the record", g.before[i] + g.after[i], 2 * 0xEE);
     sequencer_fields();
     unknown_registers();
-    if (!wrong) printf("layout: the library has each field where C has it\n");
-    return wrong;
+    for (int seed = 0; seed < 256; seed++) {
+        refusals(seed);
+        acceptances(seed);
+        store_flag(seed);
+        page_flag(seed);
+    }
+    if (!wrong) printf("layout: the library has each field where C has it, and a refused call leaves every byte\n");
+    return wrong != 0;
 }
 
 int main(int argc, char **argv) {

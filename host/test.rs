@@ -58,7 +58,7 @@ impl Host<'_> {
             gc.register_select_byte, gc.register_selected, gc.set_reset, gc.enable_set_reset, gc.color_compare, gc.data_rotate,
             gc.read_map_select, gc.mode, gc.miscellaneous, gc.color_dont_care, gc.bitmask,
             seq.address_byte, seq.register_selected, seq.reset, seq.clocking_mode, seq.map_mask, seq.character_map_select, seq.memory_mode,
-            u8::from(seq.clock_change_pending),
+            seq.clock_change_pending,
         ];
         let stats = gc.stats;
         let mut all: Vec<u32> = bytes.map(u32::from).to_vec();

@@ -6,6 +6,7 @@ ghost use Rattle.machine.specs.Answers.{one, part, outcome};
 ghost use Rattle.machine.specs.Calls.{cpuRead, cpuPeek, cpuWrite, serialize};
 ghost use Rattle.answers.specs.Answers.{answerSaid};
 ghost use Rattle.answers.specs.Wide.{shownOf};
+ghost use Rattle.host_records.specs.Records.{isSet};
 ghost use Rattle.host_calls.specs.Hosted.{held, cpuHosted};
 use answers::Answer;
 use answers::Shown;
@@ -17,6 +18,7 @@ use host_calls::read_of;
 use host_calls::write_of;
 use host_records::record::ControllerRecord;
 use host_records::record::SequencerRecord;
+use host_records::record::is_set;
 use host_records::record::known;
 use host_records::record::to_controller;
 use host_records::record::to_sequencer;
@@ -32,9 +34,9 @@ pub extern "C" fn iddesmar_gc_cpu_read_u8(
     p3: &[u8],
     picture: &[u8],
     address: usize,
-    page: bool,
+    page: u8,
 ) -> Answer
-    ensures { λ r. ⌜ outcome (answerSaid r) (held (now (gc .exit)) (before p0 p1 p2 p3 picture)) ≡ cpuHosted (now (gc .entry)) seq (before p0 p1 p2 p3 picture) (one 0) (cpuRead address page) ⌝ }
+    ensures { λ r. ⌜ outcome (answerSaid r) (held (now (gc .exit)) (before p0 p1 p2 p3 picture)) ≡ cpuHosted (now (gc .entry)) seq (before p0 p1 p2 p3 picture) (one 0) (cpuRead address (isSet page)) ⌝ }
 {
     let w = read_of(*gc, seq, p0, p1, p2, p3, picture, address, page);
     *gc = w.gc;
@@ -51,10 +53,10 @@ pub extern "C" fn iddesmar_gc_cpu_write_u8(
     p3: &mut [u8],
     picture: &mut [u8],
     address: usize,
-    page: bool,
+    page: u8,
     byte: u8,
 ) -> Answer
-    ensures { λ r. ⌜ outcome (answerSaid r) (held (now (gc .exit)) (after p0 p1 p2 p3 picture)) ≡ cpuHosted (now (gc .entry)) seq (before p0 p1 p2 p3 picture) (one 0) (cpuWrite address page byte) ⌝ }
+    ensures { λ r. ⌜ outcome (answerSaid r) (held (now (gc .exit)) (after p0 p1 p2 p3 picture)) ≡ cpuHosted (now (gc .entry)) seq (before p0 p1 p2 p3 picture) (one 0) (cpuWrite address (isSet page) byte) ⌝ }
 {
     let w = write_of(*gc, seq, p0, p1, p2, p3, picture, address, page, byte);
     gc.stats = w.stats;
@@ -72,15 +74,16 @@ pub extern "C" fn iddesmar_gc_cpu_peek_u8(
     p3: &[u8],
     picture: &[u8],
     address: usize,
-    page: bool,
+    page: u8,
 ) -> Answer
-    ensures { λ r. ⌜ outcome (answerSaid r) (held gc (before p0 p1 p2 p3 picture)) ≡ cpuHosted gc seq (before p0 p1 p2 p3 picture) (one 0) (cpuPeek address page) ⌝ }
+    ensures { λ r. ⌜ outcome (answerSaid r) (held gc (before p0 p1 p2 p3 picture)) ≡ cpuHosted gc seq (before p0 p1 p2 p3 picture) (one 0) (cpuPeek address (isSet page)) ⌝ }
 {
     if !known(gc, seq) {
         return unknown();
     }
     let controller = to_controller(gc);
     let sequencer = to_sequencer(seq);
+    let high = is_set(page);
     let answer = graphics_controller::cpu_peek_u8(
         controller,
         sequencer,
@@ -90,7 +93,7 @@ pub extern "C" fn iddesmar_gc_cpu_peek_u8(
         p3,
         picture,
         address,
-        page,
+        high,
     );
     of_byte(answer)
 }

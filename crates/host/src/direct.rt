@@ -6,6 +6,7 @@ ghost use Rattle.machine.specs.Answers.{one, pixel, part, outcome};
 ghost use Rattle.machine.specs.Calls.{seqCpuReadU8, seqPeekU8, seqGcReadU8, seqReadLinear, seqSerializeLinear, seqPlaneSet, seqPlaneAnd, seqPlaneOr};
 ghost use Rattle.answers.specs.Answers.{answerSaid, pixelAnswerSaid};
 ghost use Rattle.answers.specs.Wide.{shownOf};
+ghost use Rattle.host_records.specs.Records.{isSet};
 ghost use Rattle.host_calls.specs.Hosted.{directHosted};
 use answers::Answer;
 use answers::Shown;
@@ -16,6 +17,7 @@ use answers::of_store;
 use answers::unknown;
 use answers::unknown_shown;
 use host_records::record::SequencerRecord;
+use host_records::record::is_set;
 use host_records::record::known_sequencer;
 use host_records::record::to_sequencer;
 use types::PixelPlace;
@@ -31,16 +33,17 @@ pub extern "C" fn iddesmar_seq_cpu_read_u8(
     picture: &[u8],
     plane: usize,
     offset: usize,
-    a0: bool,
+    a0: u8,
 ) -> Answer
-    ensures { λ r. ⌜ outcome (answerSaid r) (before p0 p1 p2 p3 picture) ≡ directHosted seq (before p0 p1 p2 p3 picture) (one 0) (seqCpuReadU8 plane offset a0) ⌝ }
+    ensures { λ r. ⌜ outcome (answerSaid r) (before p0 p1 p2 p3 picture) ≡ directHosted seq (before p0 p1 p2 p3 picture) (one 0) (seqCpuReadU8 plane offset (isSet a0)) ⌝ }
 {
     if !known_sequencer(seq) {
         return unknown();
     }
     let sequencer = to_sequencer(seq);
     let at = PlaneOffset(offset);
-    let answer = sequencer::cpu_read_u8(sequencer, p0, p1, p2, p3, picture, plane, at, a0);
+    let odd = is_set(a0);
+    let answer = sequencer::cpu_read_u8(sequencer, p0, p1, p2, p3, picture, plane, at, odd);
     of_byte(answer)
 }
 
@@ -54,16 +57,17 @@ pub extern "C" fn iddesmar_seq_peek_u8(
     picture: &[u8],
     plane: usize,
     offset: usize,
-    a0: bool,
+    a0: u8,
 ) -> Answer
-    ensures { λ r. ⌜ outcome (answerSaid r) (before p0 p1 p2 p3 picture) ≡ directHosted seq (before p0 p1 p2 p3 picture) (one 0) (seqPeekU8 plane offset a0) ⌝ }
+    ensures { λ r. ⌜ outcome (answerSaid r) (before p0 p1 p2 p3 picture) ≡ directHosted seq (before p0 p1 p2 p3 picture) (one 0) (seqPeekU8 plane offset (isSet a0)) ⌝ }
 {
     if !known_sequencer(seq) {
         return unknown();
     }
     let sequencer = to_sequencer(seq);
     let at = PlaneOffset(offset);
-    let answer = sequencer::peek_u8(sequencer, p0, p1, p2, p3, picture, plane, at, a0);
+    let odd = is_set(a0);
+    let answer = sequencer::peek_u8(sequencer, p0, p1, p2, p3, picture, plane, at, odd);
     of_byte(answer)
 }
 
@@ -77,16 +81,17 @@ pub extern "C" fn iddesmar_seq_gc_read_u8(
     picture: &[u8],
     plane: usize,
     offset: usize,
-    a0: bool,
+    a0: u8,
 ) -> Answer
-    ensures { λ r. ⌜ outcome (answerSaid r) (before p0 p1 p2 p3 picture) ≡ directHosted seq (before p0 p1 p2 p3 picture) (one 0) (seqGcReadU8 plane offset a0) ⌝ }
+    ensures { λ r. ⌜ outcome (answerSaid r) (before p0 p1 p2 p3 picture) ≡ directHosted seq (before p0 p1 p2 p3 picture) (one 0) (seqGcReadU8 plane offset (isSet a0)) ⌝ }
 {
     if !known_sequencer(seq) {
         return unknown();
     }
     let sequencer = to_sequencer(seq);
     let at = PlaneOffset(offset);
-    let answer = sequencer::gc_read_u8(sequencer, p0, p1, p2, p3, picture, plane, at, a0);
+    let odd = is_set(a0);
+    let answer = sequencer::gc_read_u8(sequencer, p0, p1, p2, p3, picture, plane, at, odd);
     of_byte(answer)
 }
 
@@ -142,17 +147,18 @@ pub extern "C" fn iddesmar_seq_plane_set(
     picture: &mut [u8],
     plane: usize,
     offset: usize,
-    a0: bool,
+    a0: u8,
     byte: u8,
 ) -> Answer
-    ensures { λ r. ⌜ outcome (answerSaid r) (after p0 p1 p2 p3 picture) ≡ directHosted seq (before p0 p1 p2 p3 picture) (one 0) (seqPlaneSet plane offset a0 byte) ⌝ }
+    ensures { λ r. ⌜ outcome (answerSaid r) (after p0 p1 p2 p3 picture) ≡ directHosted seq (before p0 p1 p2 p3 picture) (one 0) (seqPlaneSet plane offset (isSet a0) byte) ⌝ }
 {
     if !known_sequencer(seq) {
         return unknown();
     }
     let sequencer = to_sequencer(seq);
     let at = PlaneOffset(offset);
-    let answer = sequencer::plane_set(sequencer, p0, p1, p2, p3, picture, plane, at, a0, byte);
+    let odd = is_set(a0);
+    let answer = sequencer::plane_set(sequencer, p0, p1, p2, p3, picture, plane, at, odd, byte);
     of_store(answer)
 }
 
@@ -166,17 +172,18 @@ pub extern "C" fn iddesmar_seq_plane_and(
     picture: &mut [u8],
     plane: usize,
     offset: usize,
-    a0: bool,
+    a0: u8,
     byte: u8,
 ) -> Answer
-    ensures { λ r. ⌜ outcome (answerSaid r) (after p0 p1 p2 p3 picture) ≡ directHosted seq (before p0 p1 p2 p3 picture) (one 0) (seqPlaneAnd plane offset a0 byte) ⌝ }
+    ensures { λ r. ⌜ outcome (answerSaid r) (after p0 p1 p2 p3 picture) ≡ directHosted seq (before p0 p1 p2 p3 picture) (one 0) (seqPlaneAnd plane offset (isSet a0) byte) ⌝ }
 {
     if !known_sequencer(seq) {
         return unknown();
     }
     let sequencer = to_sequencer(seq);
     let at = PlaneOffset(offset);
-    let answer = sequencer::plane_and(sequencer, p0, p1, p2, p3, picture, plane, at, a0, byte);
+    let odd = is_set(a0);
+    let answer = sequencer::plane_and(sequencer, p0, p1, p2, p3, picture, plane, at, odd, byte);
     of_store(answer)
 }
 
@@ -190,16 +197,17 @@ pub extern "C" fn iddesmar_seq_plane_or(
     picture: &mut [u8],
     plane: usize,
     offset: usize,
-    a0: bool,
+    a0: u8,
     byte: u8,
 ) -> Answer
-    ensures { λ r. ⌜ outcome (answerSaid r) (after p0 p1 p2 p3 picture) ≡ directHosted seq (before p0 p1 p2 p3 picture) (one 0) (seqPlaneOr plane offset a0 byte) ⌝ }
+    ensures { λ r. ⌜ outcome (answerSaid r) (after p0 p1 p2 p3 picture) ≡ directHosted seq (before p0 p1 p2 p3 picture) (one 0) (seqPlaneOr plane offset (isSet a0) byte) ⌝ }
 {
     if !known_sequencer(seq) {
         return unknown();
     }
     let sequencer = to_sequencer(seq);
     let at = PlaneOffset(offset);
-    let answer = sequencer::plane_or(sequencer, p0, p1, p2, p3, picture, plane, at, a0, byte);
+    let odd = is_set(a0);
+    let answer = sequencer::plane_or(sequencer, p0, p1, p2, p3, picture, plane, at, odd, byte);
     of_store(answer)
 }

@@ -6,7 +6,7 @@ ghost use Rattle.machine.specs.Calls.{gcReset, gcChain, gcChain4, gcMemoryMap, 
 ghost use Rattle.machine.specs.Step.{lifted, graphicsStep};
 ghost use Rattle.answers.specs.Answers.{answerSaid};
 ghost use Rattle.answers.specs.Wide.{mappedAnswerSaid};
-ghost use Rattle.host_records.specs.Records.{controllerOf, recordOf};
+ghost use Rattle.host_records.specs.Records.{isSet, controllerOf, controllerRecordOf};
 ghost use Rattle.host_calls.specs.Hosted.{graphicsHosted};
 use answers::Answer;
 use answers::Mapped;
@@ -21,23 +21,24 @@ use host_calls::address_of;
 use host_calls::data_of;
 use host_calls::reset_of;
 use host_records::record::ControllerRecord;
+use host_records::record::is_set;
 use host_records::record::known_controller;
 use host_records::record::of_controller;
 use host_records::record::to_controller;
 use types::GraphicsController;
 
-// The start record.
+// The start record; the host's own byte is 0.
 #[no_mangle]
 pub extern "C" fn iddesmar_gc_new() -> ControllerRecord
-    ensures { λ r. ⌜ r ≡ recordOf freshGc ⌝ }
+    ensures { λ r. ⌜ r ≡ controllerRecordOf 0 freshGc ⌝ }
 {
-    of_controller(GraphicsController::new())
+    of_controller(GraphicsController::new(), 0)
 }
 
-// Any record is taken; latches and counters go back to the start too.
+// Any record is taken; latches and counters go back to the start too, and the host's own byte stays.
 #[no_mangle]
 pub extern "C" fn iddesmar_gc_reset(gc: &mut ControllerRecord) -> Answer
-    ensures { λ r. ⌜ outcome (answerSaid r) (now (gc .exit)) ≡ lifted recordOf (graphicsStep (controllerOf (now (gc .entry))) gcReset) ⌝ }
+    ensures { λ r. ⌜ outcome (answerSaid r) (now (gc .exit)) ≡ lifted (controllerRecordOf (now (gc .entry) .spare)) (graphicsStep (controllerOf (now (gc .entry))) gcReset) ⌝ }
 {
     let w = reset_of(*gc);
     *gc = w.gc;
@@ -133,12 +134,8 @@ pub extern "C" fn iddesmar_gc_shift_mode(gc: ControllerRecord) -> Answer
 }
 
 #[no_mangle]
-pub extern "C" fn iddesmar_gc_map_address(
-    gc: ControllerRecord,
-    address: usize,
-    page: bool,
-) -> Mapped
-    ensures { λ r. ⌜ outcome (mappedAnswerSaid r) gc ≡ graphicsHosted gc (two 0 0) (gcMapAddress address page) ⌝ }
+pub extern "C" fn iddesmar_gc_map_address(gc: ControllerRecord, address: usize, page: u8) -> Mapped
+    ensures { λ r. ⌜ outcome (mappedAnswerSaid r) gc ≡ graphicsHosted gc (two 0 0) (gcMapAddress address (isSet page)) ⌝ }
 {
     if !known_controller(gc) {
         return Mapped {
@@ -147,5 +144,7 @@ pub extern "C" fn iddesmar_gc_map_address(
             a0: 0,
         };
     }
-    of_mapped(graphics_controller::map_address(to_controller(gc), address, page))
+    let controller = to_controller(gc);
+    let high = is_set(page);
+    of_mapped(graphics_controller::map_address(controller, address, high))
 }

@@ -46,7 +46,7 @@ pub extern "C" fn iddesmar_seq_reset(seq: SequencerRecord) -> SequencerAnswer
 
 #[no_mangle]
 pub extern "C" fn iddesmar_seq_clock(seq: SequencerRecord) -> Clock
-    ensures { λ r. ⌜ outcome (clockAnswerSaid r) seq ≡ sequencerHosted seq (one 0) seqClock ⌝ }
+    ensures { λ r. ⌜ clockAnswerSaid r ≡ sequencerHosted seq (one 0) seqClock .answer ⌝ }
 {
     if !known_sequencer(seq) {
         return Clock {
@@ -64,7 +64,7 @@ pub extern "C" fn iddesmar_seq_set_clock_change_pending(seq: SequencerRecord) ->
     if !known_sequencer(seq) {
         return unknown_sequencer(seq);
     }
-    of_sequencer_done(sequencer::set_clock_change_pending(to_sequencer(seq)))
+    of_sequencer_done(seq, sequencer::set_clock_change_pending(to_sequencer(seq)))
 }
 
 #[no_mangle]
@@ -74,12 +74,12 @@ pub extern "C" fn iddesmar_seq_poll_clock_change(seq: SequencerRecord) -> Sequen
     if !known_sequencer(seq) {
         return unknown_sequencer(seq);
     }
-    of_sequencer_flag(sequencer::poll_clock_change(to_sequencer(seq)))
+    of_sequencer_flag(seq, sequencer::poll_clock_change(to_sequencer(seq)))
 }
 
 #[no_mangle]
 pub extern "C" fn iddesmar_seq_read_address(seq: SequencerRecord) -> Answer
-    ensures { λ r. ⌜ outcome (answerSaid r) seq ≡ sequencerHosted seq (one 0) seqReadAddress ⌝ }
+    ensures { λ r. ⌜ answerSaid r ≡ sequencerHosted seq (one 0) seqReadAddress .answer ⌝ }
 {
     if !known_sequencer(seq) {
         return unknown();
@@ -94,12 +94,12 @@ pub extern "C" fn iddesmar_seq_write_address(seq: SequencerRecord, byte: u8) -> 
     if !known_sequencer(seq) {
         return unknown_sequencer(seq);
     }
-    of_sequencer_done(sequencer::write_address(to_sequencer(seq), byte))
+    of_sequencer_done(seq, sequencer::write_address(to_sequencer(seq), byte))
 }
 
 #[no_mangle]
 pub extern "C" fn iddesmar_seq_read_data(seq: SequencerRecord) -> Answer
-    ensures { λ r. ⌜ outcome (answerSaid r) seq ≡ sequencerHosted seq (one 0) seqReadData ⌝ }
+    ensures { λ r. ⌜ answerSaid r ≡ sequencerHosted seq (one 0) seqReadData .answer ⌝ }
 {
     if !known_sequencer(seq) {
         return unknown();
@@ -114,5 +114,5 @@ pub extern "C" fn iddesmar_seq_write_data(seq: SequencerRecord, byte: u8) -> Seq
     if !known_sequencer(seq) {
         return unknown_sequencer(seq);
     }
-    of_sequencer_done(sequencer::write_data(to_sequencer(seq), byte))
+    of_sequencer_done(seq, sequencer::write_data(to_sequencer(seq), byte))
 }

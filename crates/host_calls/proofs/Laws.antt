@@ -11,16 +11,16 @@ use Rattle.machine.specs.Memory.{Memory, shape}
 use Rattle.machine.specs.Answers.{Value, Said, said, Outcome, outcome, answered}
 use Rattle.machine.specs.Graphics.{gcOf, writeMode}
 use Rattle.machine.specs.Address.{offset}
-use Rattle.machine.specs.Deeds.{latchesAfter, memoryAfter, valueOf}
-use Rattle.machine.specs.Calls.{SequencerCall, DirectCall, GraphicsCall, CpuCall, cpuWrite, CpuPlan, cpuPlan, writeDeed}
+use Rattle.machine.specs.Deeds.{latchesAfter, memoryAfter, valueOf, perform}
+use Rattle.machine.specs.Calls.{SequencerCall, DirectCall, GraphicsCall, CpuCall, directPlan, gcNumberOf, cpuWrite, CpuPlan, cpuPlan, writeDeed}
 use Rattle.machine.specs.Step.{Device, device, lifted, cpuAfter, cpuPerform, sequencerStep, directStep, graphicsStep, cpuStep}
 use Rattle.answers.specs.declared.wide.Shown.{Shown}
 use Rattle.answers.specs.Wide.{shownOf}
 use Rattle.host_records.specs.declared.record.StatsRecord.{StatsRecord}
 use Rattle.host_records.specs.declared.record.ControllerRecord.{ControllerRecord}
 use Rattle.host_records.specs.declared.record.SequencerRecord.{SequencerRecord}
-use Rattle.host_records.specs.Records.{knownGc, knownSeq, known, controllerOf, recordOf, sequencerOf, sequencerRecordOf, statsRecordOf, withStats}
-use Rattle.host_records.proofs.Laws.{record-back, sequencer-back, known-gc}
+use Rattle.host_records.specs.Records.{knownGc, knownSeq, known, controllerOf, controllerRecordOf, sequencerOf, sequencerRecordOf, statsRecordOf, withStats, leftTo}
+use Rattle.host_records.proofs.Laws.{record-back, known-gc, left-lifted}
 use Rattle.host_calls.specs.Hosted.{held, heldOf, sequencerHosted, directHosted, graphicsHosted, cpuHosted}
 
 -- what a test of a record says, asked for negated as the code does
@@ -45,13 +45,17 @@ module _ (s : SequencerRecord) (v : Value) (c : SequencerCall) where
   unfolding sequencerHosted
   seq-unknown e a f = rw (← e, f)
 
-  pub seq-known : true ≡ knownSeq s → (s′ : Sequencer) → s′ ≡ sequencerOf s → (a : Said) (n : Sequencer) (o : Outcome SequencerRecord) → o ≡ lifted sequencerRecordOf (outcome a n)
+  pub seq-known : true ≡ knownSeq s → (s′ : Sequencer) → s′ ≡ sequencerOf s → (a : Said) (n : Sequencer) (o : Outcome SequencerRecord) → o ≡ leftTo sequencerRecordOf (outcome a n) s
       → outcome a n ≡ sequencerStep s′ c → o ≡ sequencerHosted s v c
   unfolding sequencerHosted
-  seq-known e s′ j a n o f p = rw (← e, f, ← j) (ap (lifted sequencerRecordOf) p)
+  seq-known e s′ j a n o f p = rw (← e, f, ← j) (ap (λ (o : Outcome Sequencer). leftTo sequencerRecordOf o s) p)
 
-  pub seq-asked : true ≡ knownSeq s → (s′ : Sequencer) → s′ ≡ sequencerOf s → (a b : Said) → b ≡ a → outcome a s′ ≡ sequencerStep s′ c → outcome b s ≡ sequencerHosted s v c
-  seq-asked e s′ j a b f p = seq-known e s′ j a s′ (outcome b s) (ap₂ outcome f (sym (ap sequencerRecordOf j ∙ sequencer-back s e))) p
+  -- a call that only asks is handed the record by value: its answer is all that is said
+  pub asked-unknown : false ≡ knownSeq s → (a : Said) → a ≡ said 6 v → a ≡ sequencerHosted s v c .answer
+  asked-unknown e a f = ap (λ (o : Outcome SequencerRecord). o .answer) (seq-unknown e a f)
+
+  pub asked-known : true ≡ knownSeq s → (s′ : Sequencer) → s′ ≡ sequencerOf s → (a b : Said) → b ≡ a → outcome a s′ ≡ sequencerStep s′ c → b ≡ sequencerHosted s v c .answer
+  asked-known e s′ j a b f p = f ∙ ap (λ (o : Outcome SequencerRecord). o .answer) (seq-known e s′ j a s′ (leftTo sequencerRecordOf (outcome a s′) s) refl p)
 
 -- ---- calls on the sequencer's record and memory
 
@@ -60,9 +64,14 @@ module _ (s : SequencerRecord) (m : Memory) (v : Value) (c : DirectCall) where
   unfolding directHosted
   direct-unknown e a f = rw (← e, f)
 
+  -- a refusal leaves the memory as handed in, so what is left is the machine's
+  direct-left : (s′ : Sequencer) → directStep s′ m c ≡ leftTo (λ (m : Memory). m) (directStep s′ m c) m
+  unfolding directStep perform
+  direct-left s′ = sym (left-lifted (λ (m : Memory). m) (directPlan s′ (shape m) c .number) _ _ m m refl)
+
   pub direct-known : true ≡ knownSeq s → (s′ : Sequencer) → s′ ≡ sequencerOf s → (a b : Said) (m′ : Memory) → b ≡ a → outcome a m′ ≡ directStep s′ m c → outcome b m′ ≡ directHosted s m v c
   unfolding directHosted
-  direct-known e s′ j a b m′ f p = rw (← e, f, ← j) p
+  direct-known e s′ j a b m′ f p = rw (← e, f, ← j) (p ∙ direct-left s′)
 
 -- ---- calls on the controller's record
 
@@ -71,13 +80,18 @@ module _ (g : ControllerRecord) (v : Value) (c : GraphicsCall) where
   unfolding graphicsHosted
   graphics-unknown e a f = rw (← e, f)
 
-  pub graphics-known : true ≡ knownGc g → (g′ : GraphicsController) → g′ ≡ controllerOf g → (a : Said) (n : GraphicsController) (o : Outcome ControllerRecord) → o ≡ lifted recordOf (outcome a n)
+  -- a refusal leaves the controller that the host's record means, so what is left is the machine's
+  graphics-left : true ≡ knownGc g → lifted (controllerRecordOf (g .spare)) (graphicsStep (controllerOf g) c) ≡ leftTo (controllerRecordOf (g .spare)) (graphicsStep (controllerOf g) c) g
+  unfolding graphicsStep
+  graphics-left e = sym (left-lifted (controllerRecordOf (g .spare)) (gcNumberOf (controllerOf g .registers) c) _ _ (controllerOf g) g (record-back g e))
+
+  pub graphics-known : true ≡ knownGc g → (g′ : GraphicsController) → g′ ≡ controllerOf g → (a : Said) (n : GraphicsController) (o : Outcome ControllerRecord) → o ≡ lifted (controllerRecordOf (g .spare)) (outcome a n)
       → outcome a n ≡ graphicsStep g′ c → o ≡ graphicsHosted g v c
   unfolding graphicsHosted
-  graphics-known e g′ i a n o f p = rw (← e, f, ← i) (ap (lifted recordOf) p)
+  graphics-known e g′ i a n o f p = rw (← e, f) (ap (lifted (controllerRecordOf (g .spare))) (p ∙ ap (λ (q : GraphicsController). graphicsStep q c) i) ∙ graphics-left e)
 
   pub graphics-asked : true ≡ knownGc g → (g′ : GraphicsController) → g′ ≡ controllerOf g → (a b : Said) → b ≡ a → outcome a g′ ≡ graphicsStep g′ c → outcome b g ≡ graphicsHosted g v c
-  graphics-asked e g′ i a b f p = graphics-known e g′ i a g′ (outcome b g) (ap₂ outcome f (sym (ap recordOf i ∙ record-back g e))) p
+  graphics-asked e g′ i a b f p = graphics-known e g′ i a g′ (outcome b g) (ap₂ outcome f (sym (ap (controllerRecordOf (g .spare)) i ∙ record-back g e))) p
 
 -- ---- calls on both records and memory
 
@@ -86,13 +100,17 @@ module _ (g : ControllerRecord) (s : SequencerRecord) (m : Memory) (v : Value) (
   unfolding cpuHosted
   cpu-unknown e a h f k = rw (← e, f, k)
 
-  pub cpu-known : true ≡ known g s → (g′ : GraphicsController) (s′ : Sequencer) → g′ ≡ controllerOf g → s′ ≡ sequencerOf s → (a b : Said) (n : GraphicsController) (h : ControllerRecord) (m′ : Memory) → b ≡ a → h ≡ recordOf n
+  cpu-left : true ≡ known g s → lifted (heldOf (g .spare)) (cpuStep (controllerOf g) (sequencerOf s) m c) ≡ leftTo (heldOf (g .spare)) (cpuStep (controllerOf g) (sequencerOf s) m c) (held g m)
+  unfolding cpuStep
+  cpu-left e = sym (left-lifted (heldOf (g .spare)) (cpuPlan (controllerOf g .registers) (sequencerOf s) (shape m) c .ask .number) _ _ (device (controllerOf g) m) (held g m) (ap (λ (h : ControllerRecord). held h m) (record-back g (known-gc g s e))))
+
+  pub cpu-known : true ≡ known g s → (g′ : GraphicsController) (s′ : Sequencer) → g′ ≡ controllerOf g → s′ ≡ sequencerOf s → (a b : Said) (n : GraphicsController) (h : ControllerRecord) (m′ : Memory) → b ≡ a → h ≡ controllerRecordOf (g .spare) n
       → outcome a (device n m′) ≡ cpuStep g′ s′ m c → outcome b (held h m′) ≡ cpuHosted g s m v c
   unfolding cpuHosted
-  cpu-known e g′ s′ i j a b n h m′ f k p = rw (← e, f, k, ← i, ← j) (ap (λ (o : Outcome Device). outcome (o .answer) (heldOf (o .next))) p)
+  cpu-known e g′ s′ i j a b n h m′ f k p = rw (← e, f, k) (ap (lifted (heldOf (g .spare))) (p ∙ ap₂ (λ (q : GraphicsController) (t : Sequencer). cpuStep q t m c) i j) ∙ cpu-left e)
 
   pub cpu-asked : true ≡ known g s → (g′ : GraphicsController) (s′ : Sequencer) → g′ ≡ controllerOf g → s′ ≡ sequencerOf s → (a b : Said) → b ≡ a → outcome a (device g′ m) ≡ cpuStep g′ s′ m c → outcome b (held g m) ≡ cpuHosted g s m v c
-  cpu-asked e g′ s′ i j a b f p = cpu-known e g′ s′ i j a b g′ g m f (sym (ap recordOf i ∙ record-back g (known-gc g s e))) p
+  cpu-asked e g′ s′ i j a b f p = cpu-known e g′ s′ i j a b g′ g m f (sym (ap (controllerRecordOf (g .spare)) i ∙ record-back g (known-gc g s e))) p
 
 -- the answer of a show, by value
 pub shown-of : {S : Type 0} (a : Said) (t : S) (o : Outcome S) (r : Shown) → r ≡ shownOf a → outcome a t ≡ o → r ≡ shownOf (o .answer)
@@ -132,5 +150,5 @@ module _ (g : ControllerRecord) (s : SequencerRecord) (m : Memory) (v : Value) (
       same : Kept (controllerOf g) n
       same = subst (λ (q : GraphicsController). Kept q n) i (subst (Kept g′) (sym (ap (λ (o : Outcome Device). o .next .gc) p)) (write-kept g′ s′ m x page y))
 
-      stays : withStats t g ≡ recordOf n
-      stays = sym (ap recordOf same ∙ ap (withStats (statsRecordOf (n .stats))) (record-back g (known-gc g s e)) ∙ ap (λ (t : StatsRecord). withStats t g) (sym (left-of f)))
+      stays : withStats t g ≡ controllerRecordOf (g .spare) n
+      stays = sym (ap (controllerRecordOf (g .spare)) same ∙ ap (withStats (statsRecordOf (n .stats))) (record-back g (known-gc g s e)) ∙ ap (λ (t : StatsRecord). withStats t g) (sym (left-of f)))

@@ -1,12 +1,15 @@
--- The machine's calls on a host's records: refusal 6 where a selected register is no register's number, else the machine's own outcome.
+-- The machine's calls on a host's records: refusal 6 where a selected register is no register's number, else the machine's own answer.
+-- A refused call, by whichever number, leaves what the host handed in; an accepted one what the machine leaves.
+use Prim.Native.Nat.{ℕ}
 use mathlib.Core.Bool.{Bool, true, false}
+use mathlib.Core.List.{List, [], _∷_}
 use Rattle.machine.specs.Memory.{Memory}
-use Rattle.machine.specs.Answers.{Value, said, Outcome, outcome}
-use Rattle.machine.specs.Calls.{SequencerCall, DirectCall, GraphicsCall, CpuCall}
-use Rattle.machine.specs.Step.{Device, lifted, sequencerStep, directStep, graphicsStep, cpuStep}
+use Rattle.machine.specs.Answers.{Value, Said, said, Outcome, outcome}
+use Rattle.machine.specs.Calls.{SequencerCall, seqReset, seqClock, seqSetClockChangePending, seqPollClockChange, seqReadAddress, seqReadData, seqWriteAddress, seqWriteData, DirectCall, GraphicsCall, CpuCall}
+use Rattle.machine.specs.Step.{Device, vramStep, sequencerStep, directStep, graphicsStep, cpuStep, State, state, Call, vram, sequencer, direct, graphics, cpu, lifted}
 use Rattle.host_records.specs.declared.record.ControllerRecord.{ControllerRecord}
 use Rattle.host_records.specs.declared.record.SequencerRecord.{SequencerRecord}
-use Rattle.host_records.specs.Records.{knownGc, knownSeq, known, controllerOf, recordOf, sequencerOf, sequencerRecordOf}
+use Rattle.host_records.specs.Records.{knownGc, knownSeq, known, controllerOf, controllerRecordOf, sequencerOf, sequencerRecordOf, leftTo}
 
 -- the controller's record as a host keeps it, and the memory
 pub record Held : Type 0 where
@@ -17,13 +20,13 @@ pub record Held : Type 0 where
 abbrev pub held : ControllerRecord → Memory → Held
 held g m = record { gc = g; memory = m }
 
--- what a host holds of the machine's device
-abbrev pub heldOf : Device → Held
-heldOf d = held (recordOf (d .gc)) (d .memory)
+-- what a host holds of the machine's device, beside its own byte
+abbrev pub heldOf : ℕ → Device → Held
+heldOf x d = held (controllerRecordOf x (d .gc)) (d .memory)
 
--- known numbers: the machine's outcome, as a host keeps what it leaves; else refusal 6, the blank value, and all as handed in
+-- known numbers: the machine's outcome, as a host is left with it; else refusal 6, the blank value, and all as handed in
 abbrev pub hosted : {S T : Type 0} → Bool → (S → T) → Outcome S → Value → T → Outcome T
-hosted true f o blank old = lifted f o
+hosted true f o blank old = leftTo f o old
 hosted false f o blank old = outcome (said 6 blank) old
 
 -- calls on the sequencer's record
@@ -36,8 +39,48 @@ directHosted s m blank c = hosted (knownSeq s) (λ m. m) (directStep (sequencerO
 
 -- calls on the controller's record
 unfoldable pub graphicsHosted : ControllerRecord → Value → GraphicsCall → Outcome ControllerRecord
-graphicsHosted g blank c = hosted (knownGc g) recordOf (graphicsStep (controllerOf g) c) blank g
+graphicsHosted g blank c = hosted (knownGc g) (controllerRecordOf (g .spare)) (graphicsStep (controllerOf g) c) blank g
 
 -- calls on both records and memory
 unfoldable pub cpuHosted : ControllerRecord → SequencerRecord → Memory → Value → CpuCall → Outcome Held
-cpuHosted g s m blank c = hosted (known g s) heldOf (cpuStep (controllerOf g) (sequencerOf s) m c) blank (held g m)
+cpuHosted g s m blank c = hosted (known g s) (heldOf (g .spare)) (cpuStep (controllerOf g) (sequencerOf s) m c) blank (held g m)
+
+-- ---- a host that keeps both records and the memory, call after call
+
+-- what it keeps
+pub record Host : Type 0 where
+  pub gc : ControllerRecord
+  pub seq : SequencerRecord
+  pub memory : Memory
+
+-- the host of its three parts
+abbrev pub host : ControllerRecord → SequencerRecord → Memory → Host
+host g s m = record { gc = g; seq = s; memory = m }
+
+-- the machine's state that it means
+abbrev pub meantBy : Host → State
+meantBy h = state (controllerOf (h .gc)) (sequencerOf (h .seq)) (h .memory)
+
+-- the sequencer's record after a call: one that only asks is handed it by value and hands none back
+abbrev pub sequencerKept : SequencerCall → SequencerRecord → SequencerRecord → SequencerRecord
+sequencerKept seqReset old next = next
+sequencerKept seqClock old next = old
+sequencerKept seqSetClockChangePending old next = next
+sequencerKept seqPollClockChange old next = next
+sequencerKept seqReadAddress old next = old
+sequencerKept seqReadData old next = old
+sequencerKept (seqWriteAddress x) old next = next
+sequencerKept (seqWriteData x) old next = next
+
+-- a call of any layer, and what comes back put where it was; `v` is what the refusal of an unknown record carries
+unfoldable pub hostStep : Value → Host → Call → Outcome Host
+hostStep v h (vram c) = lifted (λ m. host (h .gc) (h .seq) m) (vramStep (h .memory) c)
+hostStep v h (sequencer c) = lifted (λ s. host (h .gc) (sequencerKept c (h .seq) s) (h .memory)) (sequencerHosted (h .seq) v c)
+hostStep v h (direct c) = lifted (λ m. host (h .gc) (h .seq) m) (directHosted (h .seq) (h .memory) v c)
+hostStep v h (graphics c) = lifted (λ g. host g (h .seq) (h .memory)) (graphicsHosted (h .gc) v c)
+hostStep v h (cpu c) = lifted (λ d. host (d .gc) (h .seq) (d .memory)) (cpuHosted (h .gc) (h .seq) (h .memory) v c)
+
+-- one call after the other: what a host is answered
+unfoldable pub hostAnswers : Value → Host → List Call → List Said
+hostAnswers v h [] = []
+hostAnswers v h (c ∷ cs) = hostStep v h c .answer ∷ hostAnswers v (hostStep v h c .next) cs

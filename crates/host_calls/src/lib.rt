@@ -5,7 +5,7 @@ ghost use Rattle.machine.specs.Answers.{one, outcome};
 ghost use Rattle.machine.specs.Calls.{cpuRead, cpuWrite, gcReset, gcWriteAddress, gcWriteData};
 ghost use Rattle.machine.specs.Step.{lifted, graphicsStep};
 ghost use Rattle.answers.specs.Answers.{answerSaid};
-ghost use Rattle.host_records.specs.Records.{withStats, controllerOf, recordOf};
+ghost use Rattle.host_records.specs.Records.{isSet, withStats, controllerOf, controllerRecordOf};
 ghost use Rattle.host_calls.specs.Hosted.{held, cpuHosted, graphicsHosted};
 use answers::done;
 use answers::of_byte;
@@ -17,6 +17,7 @@ use host_records::left::unknown_controller;
 use host_records::left::unknown_counters;
 use host_records::record::ControllerRecord;
 use host_records::record::SequencerRecord;
+use host_records::record::is_set;
 use host_records::record::known;
 use host_records::record::known_controller;
 use host_records::record::of_controller;
@@ -33,15 +34,16 @@ pub fn read_of(
     p3: &[u8],
     picture: &[u8],
     address: usize,
-    page: bool,
+    page: u8,
 ) -> ControllerAnswer
-    ensures { λ r. ⌜ outcome (answerSaid (r .answer)) (held (r .gc) (before p0 p1 p2 p3 picture)) ≡ cpuHosted gc seq (before p0 p1 p2 p3 picture) (one 0) (cpuRead address page) ⌝ }
+    ensures { λ r. ⌜ outcome (answerSaid (r .answer)) (held (r .gc) (before p0 p1 p2 p3 picture)) ≡ cpuHosted gc seq (before p0 p1 p2 p3 picture) (one 0) (cpuRead address (isSet page)) ⌝ }
 {
     if !known(gc, seq) {
         return unknown_controller(gc);
     }
     let controller = to_controller(gc);
     let sequencer = to_sequencer(seq);
+    let high = is_set(page);
     let r = graphics_controller::cpu_read_u8(
         controller,
         sequencer,
@@ -51,13 +53,13 @@ pub fn read_of(
         p3,
         picture,
         address,
-        page,
+        high,
     );
     let answer = r.answer;
     let next = r.gc;
     ControllerAnswer {
         answer: of_byte(answer),
-        gc: of_controller(next),
+        gc: of_controller(next, gc.spare),
     }
 }
 
@@ -71,16 +73,17 @@ pub fn write_of(
     p3: &mut [u8],
     picture: &mut [u8],
     address: usize,
-    page: bool,
+    page: u8,
     byte: u8,
 ) -> StatsAnswer
-    ensures { λ r. ⌜ outcome (answerSaid (r .answer)) (held (withStats (r .stats) gc) (after p0 p1 p2 p3 picture)) ≡ cpuHosted gc seq (before p0 p1 p2 p3 picture) (one 0) (cpuWrite address page byte) ⌝ }
+    ensures { λ r. ⌜ outcome (answerSaid (r .answer)) (held (withStats (r .stats) gc) (after p0 p1 p2 p3 picture)) ≡ cpuHosted gc seq (before p0 p1 p2 p3 picture) (one 0) (cpuWrite address (isSet page) byte) ⌝ }
 {
     if !known(gc, seq) {
         return unknown_counters(gc);
     }
     let controller = to_controller(gc);
     let sequencer = to_sequencer(seq);
+    let high = is_set(page);
     let r = graphics_controller::cpu_write_u8(
         controller,
         sequencer,
@@ -90,19 +93,20 @@ pub fn write_of(
         p3,
         picture,
         address,
-        page,
+        high,
         byte,
     );
     of_cpu_store(r)
 }
 
+// Any record is taken; the host's own byte stays.
 pub fn reset_of(gc: ControllerRecord) -> ControllerAnswer
-    ensures { λ r. ⌜ outcome (answerSaid (r .answer)) (r .gc) ≡ lifted recordOf (graphicsStep (controllerOf gc) gcReset) ⌝ }
+    ensures { λ r. ⌜ outcome (answerSaid (r .answer)) (r .gc) ≡ lifted (controllerRecordOf (gc .spare)) (graphicsStep (controllerOf gc) gcReset) ⌝ }
 {
     let fresh = graphics_controller::reset(to_controller(gc));
     ControllerAnswer {
         answer: done(),
-        gc: of_controller(fresh),
+        gc: of_controller(fresh, gc.spare),
     }
 }
 
@@ -112,7 +116,10 @@ pub fn address_of(gc: ControllerRecord, byte: u8) -> ControllerAnswer
     if !known_controller(gc) {
         return unknown_controller(gc);
     }
-    of_graphics_done(graphics_controller::write_address(to_controller(gc), byte))
+    of_graphics_done(
+        gc.spare,
+        graphics_controller::write_address(to_controller(gc), byte),
+    )
 }
 
 pub fn data_of(gc: ControllerRecord, byte: u8) -> ControllerAnswer
@@ -121,5 +128,8 @@ pub fn data_of(gc: ControllerRecord, byte: u8) -> ControllerAnswer
     if !known_controller(gc) {
         return unknown_controller(gc);
     }
-    of_graphics_done(graphics_controller::write_data(to_controller(gc), byte))
+    of_graphics_done(
+        gc.spare,
+        graphics_controller::write_data(to_controller(gc), byte),
+    )
 }

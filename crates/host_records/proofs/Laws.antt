@@ -1,16 +1,27 @@
--- What the records' proofs cite: registers by number and back, and records of known number as they are.
+-- What the records' proofs cite: registers by number and back, what a record means and back, what a number leaves.
 use Prim.Native.Nat.{ℕ, zero, suc, _≤_}
 use native.Mathlib.Omega.{arith}
 use mathlib.Core.Path.{_≡_, refl, sym}
-use mathlib.Core.Bool.{true}
+use mathlib.Core.Bool.{Bool, true, false}
+use lib.Dec.{leb}
 use borrow.Author.Tests.{leb-true}
-use Rattle.types.specs.declared.graphics.GraphicsRegister.the-variants.{BitMask}
+use Rattle.bits.specs.Bit.{bitOf}
+use Rattle.types.specs.declared.answer.Refusal.{Refusal}
+use Rattle.types.specs.declared.answer.Refusal.the-variants.{Memory, Window, Offset, Plane, Place, State, Damaged, Range, Shift, Room}
+use Rattle.types.specs.declared.graphics.GraphicsController.{GraphicsController}
+use Rattle.types.specs.declared.graphics.GraphicsRegister.{GraphicsRegister}
+use Rattle.types.specs.declared.graphics.GraphicsRegister.the-variants.{SetReset, EnableSetReset, ColorCompare, DataRotate, ReadMapSelect, Mode, Miscellaneous, ColorDontCare, BitMask}
+use Rattle.types.specs.declared.sequencer.Sequencer.{Sequencer}
+use Rattle.types.specs.declared.sequencer.SequencerRegister.{SequencerRegister}
+use Rattle.types.specs.declared.sequencer.SequencerRegister.the-variants.{Reset, ClockingMode, MapMask, CharacterMapSelect, MemoryMode, Invalid}
+use Rattle.machine.specs.Answers.{refusalNumber, Value, answered}
 use Rattle.machine.specs.Graphics.{selects, registerNumber}
 use Rattle.machine.specs.Sequencer.{selectsSeq, seqNumber}
+use Rattle.machine.specs.Step.{lifted}
 use Rattle.machine.proofs.Laws.{both}
 use Rattle.host_records.specs.declared.record.ControllerRecord.{ControllerRecord}
 use Rattle.host_records.specs.declared.record.SequencerRecord.{SequencerRecord}
-use Rattle.host_records.specs.Records.{knownGc, knownSeq, known, controllerOf, recordOf, sequencerOf, sequencerRecordOf}
+use Rattle.host_records.specs.Records.{knownGc, knownSeq, known, isSet, controllerOf, controllerRecordOf, sequencerOf, sequencerRecordOf, leftBy, leftTo}
 
 -- ---- registers by number
 
@@ -28,22 +39,97 @@ number-back (suc (suc (suc (suc (suc (suc (suc zero))))))) h = refl
 number-back (suc (suc (suc (suc (suc (suc (suc (suc zero)))))))) h = refl
 number-back (suc (suc (suc (suc (suc (suc (suc (suc (suc n))))))))) h = absurd (omega arith)
 
-seq-number-back : (n : ℕ) → n ≤ 5 → seqNumber (selectsSeq n) ≡ n
-unfolding selectsSeq
-seq-number-back zero h = refl
-seq-number-back (suc zero) h = refl
-seq-number-back (suc (suc zero)) h = refl
-seq-number-back (suc (suc (suc zero))) h = refl
-seq-number-back (suc (suc (suc (suc zero)))) h = refl
-seq-number-back (suc (suc (suc (suc (suc zero))))) h = refl
-seq-number-back (suc (suc (suc (suc (suc (suc n)))))) h = absurd (omega arith)
-
 -- a record of known number is kept as it is
-pub record-back : (g : ControllerRecord) → true ≡ knownGc g → recordOf (controllerOf g) ≡ g
+pub record-back : (g : ControllerRecord) → true ≡ knownGc g → controllerRecordOf (g .spare) (controllerOf g) ≡ g
 record-back g e = rw (number-back (g .«register_selected») (leb-true _ _ (sym e)))
-
-pub sequencer-back : (s : SequencerRecord) → true ≡ knownSeq s → sequencerRecordOf (sequencerOf s) ≡ s
-sequencer-back s e = rw (seq-number-back (s .«register_selected») (leb-true _ _ (sym e)))
 
 pub known-gc : (g : ControllerRecord) (s : SequencerRecord) → true ≡ known g s → true ≡ knownGc g
 known-gc g s e = sym (both (knownGc g) (knownSeq s) (sym e) .0)
+
+pub known-seq : (g : ControllerRecord) (s : SequencerRecord) → true ≡ known g s → true ≡ knownSeq s
+known-seq g s e = sym (both (knownGc g) (knownSeq s) (sym e) .1)
+
+-- ---- what a record of the machine's means, as a host keeps it
+
+register-meant : (q : GraphicsRegister) → selects (registerNumber q) BitMask ≡ q
+unfolding selects
+register-meant SetReset = refl
+register-meant EnableSetReset = refl
+register-meant ColorCompare = refl
+register-meant DataRotate = refl
+register-meant ReadMapSelect = refl
+register-meant Mode = refl
+register-meant Miscellaneous = refl
+register-meant ColorDontCare = refl
+register-meant BitMask = refl
+
+seq-register-meant : (q : SequencerRegister) → selectsSeq (seqNumber q) ≡ q
+unfolding selectsSeq
+seq-register-meant Reset = refl
+seq-register-meant ClockingMode = refl
+seq-register-meant MapMask = refl
+seq-register-meant CharacterMapSelect = refl
+seq-register-meant MemoryMode = refl
+seq-register-meant Invalid = refl
+
+mark-meant : (b : Bool) → isSet (bitOf b) ≡ b
+unfolding isSet
+mark-meant true = refl
+mark-meant false = refl
+
+-- it means the machine's record again
+pub controller-meant : (x : ℕ) (g : GraphicsController) → controllerOf (controllerRecordOf x g) ≡ g
+controller-meant x g = rw (register-meant (g .registers .«register_selected»))
+
+pub sequencer-meant : (s : Sequencer) → sequencerOf (sequencerRecordOf s) ≡ s
+sequencer-meant s = rw (seq-register-meant (s .«register_selected»), mark-meant (s .«clock_change_pending»))
+
+-- its selected register is known
+pub controller-known : (x : ℕ) (g : GraphicsController) → true ≡ knownGc (controllerRecordOf x g)
+controller-known x g = go (g .registers .«register_selected»)
+  where
+    go : (q : GraphicsRegister) → true ≡ leb (registerNumber q) 8
+    go SetReset = refl
+    go EnableSetReset = refl
+    go ColorCompare = refl
+    go DataRotate = refl
+    go ReadMapSelect = refl
+    go Mode = refl
+    go Miscellaneous = refl
+    go ColorDontCare = refl
+    go BitMask = refl
+
+pub sequencer-known : (s : Sequencer) → true ≡ knownSeq (sequencerRecordOf s)
+sequencer-known s = go (s .«register_selected»)
+  where
+    go : (q : SequencerRegister) → true ≡ leb (seqNumber q) 5
+    go Reset = refl
+    go ClockingMode = refl
+    go MapMask = refl
+    go CharacterMapSelect = refl
+    go MemoryMode = refl
+    go Invalid = refl
+
+-- ---- what a number leaves
+
+pub left-refused : {T : Type 0} (r : Refusal) (new old : T) → leftBy (refusalNumber r) new old ≡ old
+left-refused Memory new old = refl
+left-refused Window new old = refl
+left-refused Offset new old = refl
+left-refused Plane new old = refl
+left-refused Place new old = refl
+left-refused State new old = refl
+left-refused Damaged new old = refl
+left-refused Range new old = refl
+left-refused Shift new old = refl
+left-refused Room new old = refl
+
+-- of two that are the same either
+pub left-same : {T : Type 0} (n : ℕ) (x : T) → leftBy n x x ≡ x
+left-same zero x = refl
+left-same (suc n) x = refl
+
+-- where the machine's refusal leaves what the host handed in, what is left is the machine's, refused or not
+pub left-lifted : {S T : Type 0} (f : S → T) (n : ℕ) (v : Value) (new old : S) (kept : T) → f old ≡ kept → leftTo f (answered n v new old) kept ≡ lifted f (answered n v new old)
+left-lifted f zero v new old kept e = refl
+left-lifted f (suc n) v new old kept e = rw (← e)

@@ -1,2 +1,4 @@
 pub mod Laws
 pub mod InPlace
+pub mod Told
+pub mod Determined

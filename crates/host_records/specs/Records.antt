@@ -1,15 +1,20 @@
 -- How a host's records, numbers alone, are read as the machine's, and the machine's as a host's.
-use mathlib.Core.Bool.{Bool, _&&_}
+use Prim.Native.Nat.{ℕ, zero, suc}
+use mathlib.Core.Bool.{Bool, true, false, _&&_}
 use lib.Dec.{leb}
+use Rattle.bits.specs.Bit.{bitOf}
 use Rattle.types.specs.declared.graphics.GraphicsController.{GraphicsController}
 use Rattle.types.specs.declared.graphics.GraphicsControllerStats.{GraphicsControllerStats}
 use Rattle.types.specs.declared.graphics.GraphicsRegister.the-variants.{BitMask}
 use Rattle.types.specs.declared.sequencer.Sequencer.{Sequencer}
+use Rattle.machine.specs.Answers.{Outcome, outcome}
 use Rattle.machine.specs.Graphics.{selects, registerNumber, gcOf}
 use Rattle.machine.specs.Sequencer.{selectsSeq, seqNumber}
 use Rattle.host_records.specs.declared.record.StatsRecord.{StatsRecord}
 use Rattle.host_records.specs.declared.record.ControllerRecord.{ControllerRecord}
 use Rattle.host_records.specs.declared.record.SequencerRecord.{SequencerRecord}
+
+-- ---- numbers
 
 -- whether the selected register is a register's number: 0 to 8
 abbrev pub knownGc : ControllerRecord → Bool
@@ -22,6 +27,13 @@ knownSeq s = leb (s .«register_selected») 5
 -- both
 abbrev pub known : ControllerRecord → SequencerRecord → Bool
 known g s = knownGc g && knownSeq s
+
+-- a flag that a host hands in, the pending mark, a0 and page: 0 is clear, any other number set
+unfoldable pub isSet : ℕ → Bool
+isSet zero = false
+isSet (suc n) = true
+
+-- ---- records
 
 -- the counters
 abbrev pub statsOf : StatsRecord → GraphicsControllerStats
@@ -50,9 +62,9 @@ controllerOf g = gcOf
     (statsOf (g .stats))
     (g .latches)
 
--- a controller as a host keeps it
-abbrev pub recordOf : GraphicsController → ControllerRecord
-recordOf g = record {
+-- a controller as a host keeps it, beside its own byte
+abbrev pub controllerRecordOf : ℕ → GraphicsController → ControllerRecord
+controllerRecordOf x g = record {
   stats = statsRecordOf (g .stats);
   «register_select_byte» = g .registers .«register_select_byte»;
   «register_selected» = registerNumber (g .registers .«register_selected»);
@@ -66,6 +78,7 @@ recordOf g = record {
   «color_dont_care» = g .registers .«color_dont_care»;
   bitmask = g .registers .bitmask;
   latches = g .latches;
+  spare = x;
 }
 
 -- a host's record with other counters
@@ -84,6 +97,7 @@ withStats c g = record {
   «color_dont_care» = g .«color_dont_care»;
   bitmask = g .bitmask;
   latches = g .latches;
+  spare = g .spare;
 }
 
 -- the sequencer that a host's record of known number means
@@ -96,12 +110,12 @@ sequencerOf s = record {
   «map_mask» = s .«map_mask»;
   «character_map_select» = s .«character_map_select»;
   «memory_mode» = s .«memory_mode»;
-  «clock_change_pending» = s .«clock_change_pending»;
+  «clock_change_pending» = isSet (s .«clock_change_pending»);
   «clock_divisor» = s .«clock_divisor»;
   «char_clock» = s .«char_clock»;
 }
 
--- a sequencer as a host keeps it
+-- a sequencer as a host keeps it: the mark is 0 or 1
 abbrev pub sequencerRecordOf : Sequencer → SequencerRecord
 sequencerRecordOf s = record {
   «address_byte» = s .«address_byte»;
@@ -111,7 +125,18 @@ sequencerRecordOf s = record {
   «map_mask» = s .«map_mask»;
   «character_map_select» = s .«character_map_select»;
   «memory_mode» = s .«memory_mode»;
-  «clock_change_pending» = s .«clock_change_pending»;
+  «clock_change_pending» = bitOf (s .«clock_change_pending»);
   «clock_divisor» = s .«clock_divisor»;
   «char_clock» = s .«char_clock»;
 }
+
+-- ---- what a call leaves
+
+-- by the answer's number: 0 leaves what is new, a refusal what was handed in
+abbrev pub leftBy : {T : Type 0} → ℕ → T → T → T
+leftBy zero new old = new
+leftBy (suc n) new old = old
+
+-- the machine's outcome as a host is left with it: a refusal leaves the host's record as it was handed in
+abbrev pub leftTo : {S T : Type 0} → (S → T) → Outcome S → T → Outcome T
+leftTo f o old = outcome (o .answer) (leftBy (o .answer .number) (f (o .next)) old)

@@ -2,7 +2,7 @@
 ghost use mathlib.Core.Path.{_≡_};
 ghost use Rattle.machine.specs.Answers.{said, one, outcome, storeSaid, doneSaid, flagSaid};
 ghost use Rattle.machine.specs.Step.{lifted};
-ghost use Rattle.host_records.specs.Records.{statsRecordOf, recordOf, sequencerRecordOf};
+ghost use Rattle.host_records.specs.Records.{statsRecordOf, controllerRecordOf, sequencerRecordOf, leftTo};
 ghost use Rattle.answers.specs.Answers.{answerSaid};
 use crate::record::ControllerRecord;
 use crate::record::SequencerRecord;
@@ -11,11 +11,15 @@ use crate::record::of_controller;
 use crate::record::of_sequencer;
 use crate::record::of_stats;
 use answers::Answer;
+use answers::done;
+use answers::given;
 use answers::of_done;
-use answers::of_flag;
 use answers::of_store;
+use answers::refused;
 use answers::unknown;
 use types::CpuStore;
+use types::DoneAnswer;
+use types::FlagAnswer;
 use types::GraphicsDone;
 use types::SequencerDone;
 use types::SequencerFlag;
@@ -67,36 +71,50 @@ pub fn unknown_counters(gc: ControllerRecord) -> StatsAnswer
     }
 }
 
-pub fn of_sequencer_done(left: SequencerDone) -> SequencerAnswer
-    ensures { λ r. ⌜ outcome (answerSaid (r .answer)) (r .seq) ≡ lifted sequencerRecordOf (outcome (doneSaid (left .answer)) (left .seq)) ⌝ }
+// What the machine left where it is done; the host's record as it was handed in where it is refused.
+pub fn of_sequencer_done(seq: SequencerRecord, left: SequencerDone) -> SequencerAnswer
+    ensures { λ r. ⌜ outcome (answerSaid (r .answer)) (r .seq) ≡ leftTo sequencerRecordOf (outcome (doneSaid (left .answer)) (left .seq)) seq ⌝ }
 {
     let answer = left.answer;
     let next = left.seq;
-    SequencerAnswer {
-        answer: of_done(answer),
-        seq: of_sequencer(next),
+    match answer {
+        DoneAnswer::Done => SequencerAnswer {
+            answer: done(),
+            seq: of_sequencer(next),
+        },
+        DoneAnswer::Refused(x) => SequencerAnswer {
+            answer: refused(x),
+            seq,
+        },
     }
 }
 
-pub fn of_sequencer_flag(left: SequencerFlag) -> SequencerAnswer
-    ensures { λ r. ⌜ outcome (answerSaid (r .answer)) (r .seq) ≡ lifted sequencerRecordOf (outcome (flagSaid (left .answer)) (left .seq)) ⌝ }
+pub fn of_sequencer_flag(seq: SequencerRecord, left: SequencerFlag) -> SequencerAnswer
+    ensures { λ r. ⌜ outcome (answerSaid (r .answer)) (r .seq) ≡ leftTo sequencerRecordOf (outcome (flagSaid (left .answer)) (left .seq)) seq ⌝ }
 {
     let answer = left.answer;
     let next = left.seq;
-    SequencerAnswer {
-        answer: of_flag(answer),
-        seq: of_sequencer(next),
+    match answer {
+        FlagAnswer::Done(set) => SequencerAnswer {
+            answer: given(0, set as u8),
+            seq: of_sequencer(next),
+        },
+        FlagAnswer::Refused(x) => SequencerAnswer {
+            answer: refused(x),
+            seq,
+        },
     }
 }
 
-pub fn of_graphics_done(left: GraphicsDone) -> ControllerAnswer
-    ensures { λ r. ⌜ outcome (answerSaid (r .answer)) (r .gc) ≡ lifted recordOf (outcome (doneSaid (left .answer)) (left .gc)) ⌝ }
+// The host's own byte stays beside what the machine left.
+pub fn of_graphics_done(spare: u8, left: GraphicsDone) -> ControllerAnswer
+    ensures { λ r. ⌜ outcome (answerSaid (r .answer)) (r .gc) ≡ lifted (controllerRecordOf spare) (outcome (doneSaid (left .answer)) (left .gc)) ⌝ }
 {
     let answer = left.answer;
     let next = left.gc;
     ControllerAnswer {
         answer: of_done(answer),
-        gc: of_controller(next),
+        gc: of_controller(next, spare),
     }
 }
 

@@ -1,6 +1,6 @@
-// The two records as a host keeps them: numbers and flags alone, since an enum cannot cross the boundary. The selected register is its number.
+// The two records as a host keeps them: numbers alone, since neither an enum nor a flag that is neither 0 nor 1 can cross the boundary. The selected register is its number.
 ghost use mathlib.Core.Path.{_≡_};
-ghost use Rattle.host_records.specs.Records.{statsOf, statsRecordOf, controllerOf, recordOf, sequencerOf, sequencerRecordOf, knownGc as knowsGc, knownSeq as knowsSeq, known as knows};
+ghost use Rattle.host_records.specs.Records.{isSet, statsOf, statsRecordOf, controllerOf, controllerRecordOf, sequencerOf, sequencerRecordOf, knownGc as knowsGc, knownSeq as knowsSeq, known as knows};
 use types::GraphicsController;
 use types::GraphicsControllerStats;
 use types::GraphicsRegister;
@@ -33,6 +33,8 @@ pub struct ControllerRecord {
     pub color_dont_care: u8,
     pub bitmask: u8,
     pub latches: [u8; 4],
+    // A byte of the host's own: every call leaves it as it is.
+    pub spare: u8,
 }
 
 #[repr(C)]
@@ -44,7 +46,8 @@ pub struct SequencerRecord {
     pub map_mask: u8,
     pub character_map_select: u8,
     pub memory_mode: u8,
-    pub clock_change_pending: bool,
+    // 0 is clear, any other number set; an accepted call leaves 0 or 1.
+    pub clock_change_pending: u8,
     pub clock_divisor: u32,
     pub char_clock: u32,
 }
@@ -69,6 +72,13 @@ pub fn known(gc: ControllerRecord, seq: SequencerRecord) -> bool
         return false;
     }
     known_sequencer(seq)
+}
+
+// A flag that a host hands in: 0 is clear, any other number set.
+pub fn is_set(flag: u8) -> bool
+    ensures { λ r. ⌜ r ≡ isSet flag ⌝ }
+{
+    flag != 0
 }
 
 fn to_stats(stats: StatsRecord) -> GraphicsControllerStats
@@ -125,9 +135,9 @@ pub fn to_controller(gc: ControllerRecord) -> GraphicsController
     }
 }
 
-// The machine's record as a host keeps it.
-pub fn of_controller(gc: GraphicsController) -> ControllerRecord
-    ensures { λ r. ⌜ r ≡ recordOf gc ⌝ }
+// The machine's record as a host keeps it, with the host's own byte.
+pub fn of_controller(gc: GraphicsController, spare: u8) -> ControllerRecord
+    ensures { λ r. ⌜ r ≡ controllerRecordOf spare gc ⌝ }
 {
     let registers = gc.registers;
     let stats = gc.stats;
@@ -147,6 +157,7 @@ pub fn of_controller(gc: GraphicsController) -> ControllerRecord
         color_dont_care: registers.color_dont_care,
         bitmask: registers.bitmask,
         latches,
+        spare,
     }
 }
 
@@ -161,7 +172,7 @@ pub fn to_sequencer(seq: SequencerRecord) -> Sequencer
         map_mask: seq.map_mask,
         character_map_select: seq.character_map_select,
         memory_mode: seq.memory_mode,
-        clock_change_pending: seq.clock_change_pending,
+        clock_change_pending: is_set(seq.clock_change_pending),
         clock_divisor: seq.clock_divisor,
         char_clock: seq.char_clock,
     }
@@ -179,7 +190,7 @@ pub fn of_sequencer(seq: Sequencer) -> SequencerRecord
         map_mask: seq.map_mask,
         character_map_select: seq.character_map_select,
         memory_mode: seq.memory_mode,
-        clock_change_pending: seq.clock_change_pending,
+        clock_change_pending: seq.clock_change_pending as u8,
         clock_divisor: seq.clock_divisor,
         char_clock: seq.char_clock,
     }

@@ -24,6 +24,9 @@ to-controller-requires c κs = search needs
 to-sequencer-requires : tie.Need-to-sequencer-requires
 to-sequencer-requires c κs = search needs
 
+is-set-requires : tie.Need-is-set-requires
+is-set-requires c κs = search needs
+
 cpu-read-u8-requires : tie.Need-cpu-read-u8-requires
 cpu-read-u8-requires c κs = search needs
 
@@ -35,8 +38,8 @@ of-controller-requires c κs = search needs
 
 returns-2 : tie.Need-returns-2
 returns-2 c =
-    let a = c .before .before .before .before .before .before .before .before .before .before .before .before .before .args in
-    cpu-known (a .gc) (a .seq) (mem (a .p0 .now) (a .p1 .now) (a .p2 .now) (a .p3 .now) (a .picture .now)) (one 0) _ (known-of (c .before .before .before .before .before .before .if1 .left) (c .before .before .before .before .before .before .before .known .ensures)) _ _ (c .before .before .before .before .before .to-controller .ensures) (c .before .before .before .before .to-sequencer .ensures) _ _ _ _ _ (c .before .of-byte .ensures) (c .of-controller .ensures) (c .before .before .before .cpu-read-u8 .ensures)
+    let a = c .before .before .before .before .before .before .before .before .before .before .before .before .before .before .args in
+    rw (← c .before .before .before .before .is-set .ensures) (cpu-known (a .gc) (a .seq) (mem (a .p0 .now) (a .p1 .now) (a .p2 .now) (a .p3 .now) (a .picture .now)) (one 0) _ (known-of (c .before .before .before .before .before .before .before .if1 .left) (c .before .before .before .before .before .before .before .before .known .ensures)) _ _ (c .before .before .before .before .before .before .to-controller .ensures) (c .before .before .before .before .before .to-sequencer .ensures) _ _ _ _ _ (c .before .of-byte .ensures) (c .of-controller .ensures) (c .before .before .before .cpu-read-u8 .ensures))
 
 pub read-of-spec : {M : Type 1} → statement M
 read-of-spec =
@@ -47,6 +50,7 @@ read-of-spec =
     returns
     to-controller-requires
     to-sequencer-requires
+    is-set-requires
     cpu-read-u8-requires
     of-byte-requires
     of-controller-requires

@@ -2,7 +2,7 @@
 use mathlib.Core.Path.{ap}
 use Rattle.types.specs.declared.graphics.GraphicsController.{GraphicsController}
 use Rattle.machine.specs.Answers.{Outcome, outcome}
-use Rattle.host_records.specs.Records.{recordOf}
+use Rattle.host_records.specs.Records.{controllerRecordOf}
 use borrow.Author.Needs.{needs}
 use Rattle.host_calls.proofs.reset_of.Statement.{statement}
 use Rattle.host_calls.proofs.reset_of.Tie as tie
@@ -21,7 +21,7 @@ of-controller-requires c κs = search needs
 
 returns : tie.Need-returns
 returns c =
-    rw (c .before .done .ensures, c .of-controller .ensures, ← c .before .before .before .to-controller .ensures) (ap (λ (o : Outcome GraphicsController). outcome (o .answer) (recordOf (o .next))) (c .before .before .reset .ensures))
+    rw (c .before .done .ensures, c .of-controller .ensures, ← c .before .before .before .to-controller .ensures) (ap (λ (o : Outcome GraphicsController). outcome (o .answer) (controllerRecordOf (c .before .before .before .before .args .gc .spare) (o .next))) (c .before .before .reset .ensures))
 
 pub reset-of-spec : {M : Type 1} → statement M
 reset-of-spec =

@@ -27,6 +27,9 @@ to-controller-requires c κs = search needs
 to-sequencer-requires : tie.Need-to-sequencer-requires
 to-sequencer-requires c κs = search needs
 
+is-set-requires : tie.Need-is-set-requires
+is-set-requires c κs = search needs
+
 cpu-write-u8-requires : tie.Need-cpu-write-u8-requires
 cpu-write-u8-requires c κs = search needs
 
@@ -50,8 +53,8 @@ same-length-5 c = search needs
 
 returns-2 : tie.Need-returns-2
 returns-2 c =
-    let a = c .before .before .before .before .before .before .before .before .before .before .before .before .before .before .before .before .before .before .before .before .before .before .before .before .before .before .args in
-    cpu-wrote (a .gc) (a .seq) (mem (a .p0 .now) (a .p1 .now) (a .p2 .now) (a .p3 .now) (a .picture .now)) (one 0) (a .address) (a .page) (a .byte) (known-of (c .before .before .before .before .before .before .before .before .before .before .before .before .before .before .before .before .before .before .before .if1 .left) (c .before .before .before .before .before .before .before .before .before .before .before .before .before .before .before .before .before .before .before .before .known .ensures)) _ _ (c .before .before .before .before .before .before .before .before .before .before .before .before .before .before .before .before .before .before .to-controller .ensures) (c .before .before .before .before .before .before .before .before .before .before .before .before .before .before .before .before .before .to-sequencer .ensures) _ _ _ _ _ (c .of-cpu-store .ensures) (c .before .before .before .before .before .before .before .before .before .before .before .cpu-write-u8 .ensures)
+    let a = c .before .before .before .before .before .before .before .before .before .before .before .before .before .before .before .before .before .before .before .before .before .before .before .before .before .before .before .args in
+    rw (← c .before .before .before .before .before .before .before .before .before .before .before .before .before .before .before .before .before .is-set .ensures) (cpu-wrote (a .gc) (a .seq) (mem (a .p0 .now) (a .p1 .now) (a .p2 .now) (a .p3 .now) (a .picture .now)) (one 0) (a .address) _ (a .byte) (known-of (c .before .before .before .before .before .before .before .before .before .before .before .before .before .before .before .before .before .before .before .before .if1 .left) (c .before .before .before .before .before .before .before .before .before .before .before .before .before .before .before .before .before .before .before .before .before .known .ensures)) _ _ (c .before .before .before .before .before .before .before .before .before .before .before .before .before .before .before .before .before .before .before .to-controller .ensures) (c .before .before .before .before .before .before .before .before .before .before .before .before .before .before .before .before .before .before .to-sequencer .ensures) _ _ _ _ _ (c .of-cpu-store .ensures) (c .before .before .before .before .before .before .before .before .before .before .before .cpu-write-u8 .ensures))
 
 pub write-of-spec : {M : Type 1} → statement M
 write-of-spec =
@@ -62,6 +65,7 @@ write-of-spec =
     returns
     to-controller-requires
     to-sequencer-requires
+    is-set-requires
     cpu-write-u8-requires
     of-cpu-store-requires
     same-length

@@ -25,6 +25,9 @@ to-controller-requires c κs = search needs
 to-sequencer-requires : tie.Need-to-sequencer-requires
 to-sequencer-requires c κs = search needs
 
+is-set-requires : tie.Need-is-set-requires
+is-set-requires c κs = search needs
+
 cpu-peek-u8-requires : tie.Need-cpu-peek-u8-requires
 cpu-peek-u8-requires c κs = search needs
 
@@ -33,8 +36,8 @@ of-byte-requires c κs = search needs
 
 returns-2 : tie.Need-returns-2
 returns-2 c =
-    let a = c .before .before .before .before .before .before .before .before .before .before .before .args in
-    cpu-asked (a .gc) (a .seq) (mem (a .p0 .now) (a .p1 .now) (a .p2 .now) (a .p3 .now) (a .picture .now)) (one 0) _ (known-of (c .before .before .before .before .if1 .left) (c .before .before .before .before .before .known .ensures)) _ _ (c .before .before .before .to-controller .ensures) (c .before .before .to-sequencer .ensures) _ _ (c .of-byte .ensures) (c .before .cpu-peek-u8 .ensures)
+    let a = c .before .before .before .before .before .before .before .before .before .before .before .before .args in
+    rw (← c .before .before .is-set .ensures) (cpu-asked (a .gc) (a .seq) (mem (a .p0 .now) (a .p1 .now) (a .p2 .now) (a .p3 .now) (a .picture .now)) (one 0) _ (known-of (c .before .before .before .before .before .if1 .left) (c .before .before .before .before .before .before .known .ensures)) _ _ (c .before .before .before .before .to-controller .ensures) (c .before .before .before .to-sequencer .ensures) _ _ (c .of-byte .ensures) (c .before .cpu-peek-u8 .ensures))
 
 pub iddesmar-gc-cpu-peek-u8-spec : {M : Type 1} → statement M
 iddesmar-gc-cpu-peek-u8-spec =
@@ -45,6 +48,7 @@ iddesmar-gc-cpu-peek-u8-spec =
     returns
     to-controller-requires
     to-sequencer-requires
+    is-set-requires
     cpu-peek-u8-requires
     of-byte-requires
     returns-2)

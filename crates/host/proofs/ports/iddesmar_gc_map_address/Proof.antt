@@ -16,6 +16,9 @@ returns c =
 to-controller-requires : tie.Need-to-controller-requires
 to-controller-requires c κs = search needs
 
+is-set-requires : tie.Need-is-set-requires
+is-set-requires c κs = search needs
+
 map-address-requires : tie.Need-map-address-requires
 map-address-requires c κs = search needs
 
@@ -24,7 +27,7 @@ of-mapped-requires c κs = search needs
 
 returns-2 : tie.Need-returns-2
 returns-2 c =
-    graphics-asked (c .before .before .before .before .before .args .gc) (two 0 0) _ (known-of (c .before .before .before .if1 .left) (c .before .before .before .before .known-controller .ensures)) _ (c .before .before .to-controller .ensures) _ _ (c .of-mapped .ensures) (c .before .map-address .ensures)
+    rw (← c .before .before .is-set .ensures) (graphics-asked (c .before .before .before .before .before .before .args .gc) (two 0 0) _ (known-of (c .before .before .before .before .if1 .left) (c .before .before .before .before .before .known-controller .ensures)) _ (c .before .before .before .to-controller .ensures) _ _ (c .of-mapped .ensures) (c .before .map-address .ensures))
 
 pub iddesmar-gc-map-address-spec : {M : Type 1} → statement M
 iddesmar-gc-map-address-spec =
@@ -33,6 +36,7 @@ iddesmar-gc-map-address-spec =
     known-controller-requires
     returns
     to-controller-requires
+    is-set-requires
     map-address-requires
     of-mapped-requires
     returns-2)

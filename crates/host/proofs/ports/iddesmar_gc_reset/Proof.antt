@@ -39,7 +39,7 @@ use denote.Triple.Clauses.{ensured, lasts}
 use Rattle.machine.specs.Answers.{outcome}
 use Rattle.machine.specs.Calls.{gcReset}
 use Rattle.machine.specs.Step.{lifted, graphicsStep}
-use Rattle.host_records.specs.Records.{controllerOf, recordOf}
+use Rattle.host_records.specs.Records.{controllerOf, controllerRecordOf}
 use Rattle.answers.specs.Answers.{answerSaid}
 use Rattle.host_records.specs.declared.record.ControllerRecord.{ControllerRecord}
 use Rattle.host_records.specs.declared.left.ControllerAnswer.{ControllerAnswer}
@@ -100,10 +100,10 @@ module _ {M : Type 1} (𝓤 : URA M) (H : Heap 𝓤) (A : Atoms 𝓤) (W : Given
     goes = qed W ((‵ ftrue) ∷ ‵ (owns (G.the-row ∷ []) (h, rest) (gval h ∷ [], restv)) ∷ []) ∵ join ! $ frame ! $ done !
 
     -- of the callee's `ensured`, the clause alone: it has no `&mut`, so what is said of last values is dropped
-    said : (r : ControllerAnswer) → ent 𝓤 (ensured 𝓤 H A by-value.ended (by-value.clauses 𝓤 H A at-mem run) κs (h, rest) tt r) (fact 𝓤 (outcome (answerSaid (r .answer)) (r .gc) ≡ lifted recordOf (graphicsStep (controllerOf h) gcReset)))
-    said r = exE 𝓤 _ (λ ws. snd∗ 𝓤 (sem 𝓤 H A (lasts by-value.ended κs (h, rest) ws)) (fact 𝓤 (outcome (answerSaid (r .answer)) (r .gc) ≡ lifted recordOf (graphicsStep (controllerOf h) gcReset))))
+    said : (r : ControllerAnswer) → ent 𝓤 (ensured 𝓤 H A by-value.ended (by-value.clauses 𝓤 H A at-mem run) κs (h, rest) tt r) (fact 𝓤 (outcome (answerSaid (r .answer)) (r .gc) ≡ lifted (controllerRecordOf (h .spare)) (graphicsStep (controllerOf h) gcReset)))
+    said r = exE 𝓤 _ (λ ws. snd∗ 𝓤 (sem 𝓤 H A (lasts by-value.ended κs (h, rest) ws)) (fact 𝓤 (outcome (answerSaid (r .answer)) (r .gc) ≡ lifted (controllerRecordOf (h .spare)) (graphicsStep (controllerOf h) gcReset))))
 
-    exits : (r : ControllerAnswer) → Is R.the-row r (rval r ∷ []) → outcome (answerSaid (r .answer)) (r .gc) ≡ lifted recordOf (graphicsStep (controllerOf h) gcReset) → ent 𝓤 (⋆ 𝓤 H A (‵ (fobs γ (G.the-row .coded .code (r .gc))) ∷ ‵ (fbor κ0 (Body (mem G.the-row) b o γ)) ∷ ‵ (flft κ0 q0) ∷ (‵ ftrue) ∷ [])) (Post (aval r))
+    exits : (r : ControllerAnswer) → Is R.the-row r (rval r ∷ []) → outcome (answerSaid (r .answer)) (r .gc) ≡ lifted (controllerRecordOf (h .spare)) (graphicsStep (controllerOf h) gcReset) → ent 𝓤 (⋆ 𝓤 H A (‵ (fobs γ (G.the-row .coded .code (r .gc))) ∷ ‵ (fbor κ0 (Body (mem G.the-row) b o γ)) ∷ ‵ (flft κ0 q0) ∷ (‵ ftrue) ∷ [])) (Post (aval r))
     exits r is e =
         qed W (‵ (fobs γ (G.the-row .coded .code (r .gc))) ∷ ‵ (fbor κ0 (Body (mem G.the-row) b o γ)) ∷ ‵ (flft κ0 q0) ∷ (‵ ftrue) ∷ []) ∵
         suffices ! _ (ends-at 𝓤 H A place.ended stayed (place.clauses 𝓤 H A at-mem run) W (((κ0, tt), (q0, tt), tt, a, vals), tt) (aval r) (r .answer) (r .gc, tt) (tt, tt)) $ says ! e $
@@ -132,7 +132,7 @@ module _ {M : Type 1} (𝓤 : URA M) (H : Heap 𝓤) (A : Atoms 𝓤) (W : Given
           use2 W (raw (Called 𝓤 H A at-mem run .pre to)) goes $
           calls-at ! fm (Called 𝓤 H A at-mem run) known to (and-then ! (load ! (from ! (stop !)) (look ! 6 refl)) (no-more !)) (λ w.
           use1 W (later (some (λ (r : ControllerAnswer). ((‵ ftrue) ⊛ ‵ (R.the-row .own r (w ∷ []))) ⊛ raw (ensured 𝓤 H A by-value.ended (by-value.clauses 𝓤 H A at-mem run) κs (h, rest) tt r)))) (id⊢ 𝓤 _) $ await ! tt $ pick ! (λ r.
-          split ! $ move ! (1 ∷ []) $ use1 W (raw (fact 𝓤 (outcome (answerSaid (r .answer)) (r .gc) ≡ lifted recordOf (graphicsStep (controllerOf h) gcReset)))) (said r) $ heard ! (outcome (answerSaid (r .answer)) (r .gc) ≡ lifted recordOf (graphicsStep (controllerOf h) gcReset)) (λ e. split ! $ move ! (1 ∷ []) $
+          split ! $ move ! (1 ∷ []) $ use1 W (raw (fact 𝓤 (outcome (answerSaid (r .answer)) (r .gc) ≡ lifted (controllerRecordOf (h .spare)) (graphicsStep (controllerOf h) gcReset)))) (said r) $ heard ! (outcome (answerSaid (r .answer)) (r .gc) ≡ lifted (controllerRecordOf (h .spare)) (graphicsStep (controllerOf h) gcReset)) (λ e. split ! $ move ! (1 ∷ []) $
           -- [what the answer owns; the tokens; the last lists; cell; own; open; obs; auth; the last local; …]
           peeks ! R.the-row (Is R.the-row) (shows 𝓤 H A R.the-row) r (w ∷ []) (λ is.
           let we : w ≡ rval r = head-is w (rval r) (LL.tells R.the-type R′.the-laws r (w ∷ []) is) in

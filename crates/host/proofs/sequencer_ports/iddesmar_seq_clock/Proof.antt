@@ -1,7 +1,7 @@
 -- Refusal 6 where a number selects no register, else as `clock` of the record that is meant.
 use mathlib.Core.Path.{refl}
 use Rattle.machine.specs.Answers.{one}
-use Rattle.host_calls.proofs.Laws.{unknown-of, known-of, seq-unknown, seq-asked}
+use Rattle.host_calls.proofs.Laws.{unknown-of, known-of, asked-unknown, asked-known}
 use borrow.Author.Needs.{needs}
 use Rattle.host.proofs.sequencer_ports.iddesmar_seq_clock.Statement.{statement}
 use Rattle.host.proofs.sequencer_ports.iddesmar_seq_clock.Tie as tie
@@ -11,7 +11,7 @@ known-sequencer-requires c κs = search needs
 
 returns : tie.Need-returns
 returns c =
-    seq-unknown (c .before .before .args .seq) (one 0) _ (unknown-of (c .if1 .taken) (c .before .known-sequencer .ensures)) _ refl
+    asked-unknown (c .before .before .args .seq) (one 0) _ (unknown-of (c .if1 .taken) (c .before .known-sequencer .ensures)) _ refl
 
 to-sequencer-requires : tie.Need-to-sequencer-requires
 to-sequencer-requires c κs = search needs
@@ -24,7 +24,7 @@ of-clock-requires c κs = search needs
 
 returns-2 : tie.Need-returns-2
 returns-2 c =
-    seq-asked (c .before .before .before .before .before .args .seq) (one 0) _ (known-of (c .before .before .before .if1 .left) (c .before .before .before .before .known-sequencer .ensures)) _ (c .before .before .to-sequencer .ensures) _ _ (c .of-clock .ensures) (c .before .clock .ensures)
+    asked-known (c .before .before .before .before .before .args .seq) (one 0) _ (known-of (c .before .before .before .if1 .left) (c .before .before .before .before .known-sequencer .ensures)) _ (c .before .before .to-sequencer .ensures) _ _ (c .of-clock .ensures) (c .before .clock .ensures)
 
 pub iddesmar-seq-clock-spec : {M : Type 1} → statement M
 iddesmar-seq-clock-spec =

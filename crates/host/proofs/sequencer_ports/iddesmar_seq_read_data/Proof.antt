@@ -2,7 +2,7 @@
 use mathlib.Core.Path.{ap}
 use Rattle.machine.specs.Answers.{one}
 use Rattle.answers.specs.Answers.{answerSaid}
-use Rattle.host_calls.proofs.Laws.{unknown-of, known-of, seq-unknown, seq-asked}
+use Rattle.host_calls.proofs.Laws.{unknown-of, known-of, asked-unknown, asked-known}
 use borrow.Author.Needs.{needs}
 use Rattle.host.proofs.sequencer_ports.iddesmar_seq_read_data.Statement.{statement}
 use Rattle.host.proofs.sequencer_ports.iddesmar_seq_read_data.Tie as tie
@@ -15,7 +15,7 @@ unknown-requires c κs = search needs
 
 returns : tie.Need-returns
 returns c =
-    seq-unknown (c .before .before .before .args .seq) (one 0) _ (unknown-of (c .before .if1 .taken) (c .before .before .known-sequencer .ensures)) _ (ap answerSaid (c .unknown .ensures))
+    asked-unknown (c .before .before .before .args .seq) (one 0) _ (unknown-of (c .before .if1 .taken) (c .before .before .known-sequencer .ensures)) _ (ap answerSaid (c .unknown .ensures))
 
 to-sequencer-requires : tie.Need-to-sequencer-requires
 to-sequencer-requires c κs = search needs
@@ -28,7 +28,7 @@ of-byte-requires c κs = search needs
 
 returns-2 : tie.Need-returns-2
 returns-2 c =
-    seq-asked (c .before .before .before .before .before .args .seq) (one 0) _ (known-of (c .before .before .before .if1 .left) (c .before .before .before .before .known-sequencer .ensures)) _ (c .before .before .to-sequencer .ensures) _ _ (c .of-byte .ensures) (c .before .read-data .ensures)
+    asked-known (c .before .before .before .before .before .args .seq) (one 0) _ (known-of (c .before .before .before .if1 .left) (c .before .before .before .before .known-sequencer .ensures)) _ (c .before .before .to-sequencer .ensures) _ _ (c .of-byte .ensures) (c .before .read-data .ensures)
 
 pub iddesmar-seq-read-data-spec : {M : Type 1} → statement M
 iddesmar-seq-read-data-spec =
