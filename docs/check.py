@@ -204,6 +204,12 @@ def calls(path):
     return sum(1 for line in read(path).splitlines() if re.match(r"\s*\d", line))
 
 
+def cases(part):
+    """The calls of a part of the list of cases."""
+    after = read("crates/replay/stdin").split(f"# ---- {part}\n")[1].split("# ---- ")[0]
+    return sum(1 for line in after.splitlines() if re.match(r"\d", line))
+
+
 def column(path, number, test):
     return sum(1 for line in read(path).splitlines() if test(line.split()[number]))
 
@@ -233,6 +239,10 @@ COUNTS = [
     ("oracle/README.md", r"`oracle generate 5 4000`: ([\d,]+) calls", lambda: calls("oracle/fixed.list")),
     ("oracle/README.md", r"calls, (\d+) of them digests", lambda: column("oracle/fixed.lines", 1, lambda x: x == "0")),
     ("oracle/README.md", r"not ours; ([\d,]+) are refusals", lambda: column("oracle/fixed.lines", 2, lambda x: x != "0")),
+    ("oracle/README.md", r"([\d,]+) calls for vram", lambda: cases("vram")),
+    ("oracle/README.md", r"([\d,]+) for sequencer and", lambda: cases("sequencer")),
+    ("oracle/README.md", r"([\d,]+) for graphics_controller", lambda: cases("graphics_controller")),
+    ("oracle/README.md", r"([\d,]+) lines about lines that are no calls", lambda: cases("lines that are no calls")),
     ("oracle/README.md", r"it gives the Rust's ([\d,]+) lines", lambda: len(read("oracle/fixed.lines").splitlines())),
 ]
 
