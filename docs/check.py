@@ -27,8 +27,8 @@ ENDINGS = "md antt rt rs c h py txt list lines tape edit out".split()
 EXCEPTIONS = {
     # words of the languages, and of the kit
     "requires", "ensures", "bool", "usize", "&mut", "getD", "Option", "rt", "types.Kit", "Bool", "|", "#",
-    # programs that scripts build, and the fields of a must-fail edit
-    "test", "oracle", "file:", "old:", "new:",
+    # programs that scripts build, the fields of a must-fail edit, and an option
+    "test", "oracle", "file:", "old:", "new:", "--help",
     # MartyPC's names for what document 01 leaves out, or gives another shape
     "get_state", "get_stats", "parallel", "foreach_plane", "serialize_buf", "linear_cga_buf", "pixel_buf", "pipeline_buf", "debug_ctr", "c4_flipflop", "plane_len",
     "plane_slice", "update_character_maps", "font_select_enabled", "get_glyph_span", "test_glyph_span", "get_glyph_address", "graphics_", "micellaneous",
