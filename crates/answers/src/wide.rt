@@ -44,11 +44,14 @@ pub fn of_mapped(answer: MappedAnswer) -> Mapped
     ensures { λ r. ⌜ mappedAnswerSaid r ≡ mappedSaid answer ⌝ }
 {
     match answer {
-        MappedAnswer::Done(offset, a0) => Mapped {
-            offset: offset.0,
-            number: 0,
-            a0: a0 as u8,
-        },
+        MappedAnswer::Done(offset, a0) => {
+            let odd = a0 as u8;
+            Mapped {
+                offset: offset.0,
+                number: 0,
+                a0: odd,
+            }
+        }
         MappedAnswer::Refused(x) => Mapped {
             offset: 0,
             number: fields::refusal_number(x),

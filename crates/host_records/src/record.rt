@@ -182,6 +182,7 @@ pub fn of_sequencer(seq: Sequencer) -> SequencerRecord
     ensures { λ r. ⌜ r ≡ sequencerRecordOf seq ⌝ }
 {
     let selected = seq.register_selected;
+    let mark = seq.clock_change_pending as u8;
     SequencerRecord {
         address_byte: seq.address_byte,
         register_selected: fields::seq::register_number(selected),
@@ -190,7 +191,7 @@ pub fn of_sequencer(seq: Sequencer) -> SequencerRecord
         map_mask: seq.map_mask,
         character_map_select: seq.character_map_select,
         memory_mode: seq.memory_mode,
-        clock_change_pending: seq.clock_change_pending as u8,
+        clock_change_pending: mark,
         clock_divisor: seq.clock_divisor,
         char_clock: seq.char_clock,
     }

@@ -6,8 +6,8 @@ use Rattle.answers.proofs.wide.of_mapped.Tie as tie
 enum-known-answer : tie.Need-enum-known-answer
 enum-known-answer c = search needs
 
-cast-t6 : tie.Need-cast-t6
-cast-t6 c = search needs
+cast-odd : tie.Need-cast-odd
+cast-odd c = search needs
 
 enum-known-answer-2 : tie.Need-enum-known-answer-2
 enum-known-answer-2 c = search needs
@@ -26,4 +26,4 @@ returns-2 c =
 pub of-mapped-spec : {M : Type 1} → statement M
 of-mapped-spec =
     tie.close
-    (tie.spec enum-known-answer cast-t6 enum-known-answer-2 refusal-number-requires returns returns-2)
+    (tie.spec enum-known-answer cast-odd enum-known-answer-2 refusal-number-requires returns returns-2)

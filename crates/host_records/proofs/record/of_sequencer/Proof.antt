@@ -3,14 +3,14 @@ use borrow.Author.Needs.{needs}
 use Rattle.host_records.proofs.record.of_sequencer.Statement.{statement}
 use Rattle.host_records.proofs.record.of_sequencer.Tie as tie
 
+cast-mark : tie.Need-cast-mark
+cast-mark c = search needs
+
 register-number-requires : tie.Need-register-number-requires
 register-number-requires c κs = search needs
 
-cast-t4 : tie.Need-cast-t4
-cast-t4 c = search needs
-
 returns : tie.Need-returns
-returns c = rw (c .before .register-number .ensures)
+returns c = rw (c .register-number .ensures)
 
 pub of-sequencer-spec : {M : Type 1} → statement M
-of-sequencer-spec = tie.close (tie.spec register-number-requires cast-t4 returns)
+of-sequencer-spec = tie.close (tie.spec cast-mark register-number-requires returns)
