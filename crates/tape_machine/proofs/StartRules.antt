@@ -1,9 +1,13 @@
 -- What the program's start says: n = 4,096, memory zero, both register sets at start. By computation.
-use Prim.Native.Nat.{ℕ}
+use Prim.Native.Nat.{ℕ, _-_}
 use mathlib.Core.Path.{_≡_, refl}
 use mathlib.Core.List.{List, [], _∷_, _++_}
-use Rattle.tape_machine.specs.Program.{tapeStart}
-use Rattle.tape_machine.proofs.Computed.{computedLines, line, showLine}
+use lib.ListN.{length, replicate}
+use Rattle.types.specs.declared.answer.Refusal.the-variants.{Room}
+use Rattle.types.specs.declared.answer.DoneAnswer.the-variants.{Refused}
+use Rattle.tape_machine.specs.Run.{ranTo}
+use Rattle.tape_machine.specs.Program.{tapeStart, Printed, printed, printedOf}
+use Rattle.tape_machine.proofs.Computed.{computedRun, line, showLine}
 
 -- A0FFF is FF 9F 28, A1000 is 80 A0 28, B0000 is 80 80 2C; 4,095 is FF 1F, 4,096 is 80 20
 pub starting : List ℕ
@@ -26,6 +30,18 @@ startingSaid =
     ++ (line 13 1 0 0 ++ (line 14 2 0 0 ++ (line 15 6 0 0 ++ (showLine 16 0
     ++ (line 17 3 0 0 ++ (line 18 4 0 0 ++ (line 19 6 0 0 ++ showLine 20 10))))))))))))))))))
 
-pub start-rules : computedLines tapeStart starting ≡ startingSaid
-unfolding computedLines tapeStart starting startingSaid
-start-rules = refl
+-- a tape run from the start, with every definition open
+unfoldable pub computedPrinted : List ℕ → List ℕ → Printed
+unfolding computedRun tapeStart printedOf
+computedPrinted tape out = printedOf tape out
+
+-- where there is room for the longest line for each of the 73 bytes: the lines at the start of `out`, the other bytes as they were
+pub start-rules : (computedPrinted starting (replicate 6132 7) .out ≡ startingSaid ++ replicate (6132 - length startingSaid) 7)
+    × (computedPrinted starting (replicate 6132 7) .ran .written ≡ length startingSaid)
+unfolding computedPrinted starting startingSaid
+start-rules = (refl, refl)
+
+-- .. and with a byte less: refusal 10, and nothing is done
+pub start-no-room : computedPrinted starting (replicate 6131 7) ≡ printed (ranTo (Refused Room) 0 tapeStart) (replicate 6131 7)
+unfolding computedPrinted starting
+start-no-room = refl
