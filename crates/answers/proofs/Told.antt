@@ -41,4 +41,6 @@ pub clock-is : (r r′ : Clock) → clockAnswerSaid r ≡ clockAnswerSaid r′ �
 clock-is r r′ e = ap₂ (λ (n x : ℕ). record { clock = x; number = n }) (number-of e) (first-of e)
 
 pub mapped-is : (r r′ : Mapped) → mappedAnswerSaid r ≡ mappedAnswerSaid r′ → r ≡ r′
-mapped-is r r′ e = ap₂ (λ (n x : ℕ). record { offset = x; number = n; a0 = r .a0 }) (number-of e) (first-of e) ∙ ap (λ (b : ℕ). record { offset = r′ .offset; number = r′ .number; a0 = b }) (second-of e)
+mapped-is r r′ e =
+    ap₂ (λ (n x : ℕ). record { offset = x; number = n; a0 = r .a0 }) (number-of e) (first-of e)
+    ∙ ap (λ (b : ℕ). record { offset = r′ .offset; number = r′ .number; a0 = b }) (second-of e)

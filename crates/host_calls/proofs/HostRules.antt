@@ -7,7 +7,8 @@ use mathlib.Core.List.{List, [], _∷_, _++_}
 use Rattle.bits.specs.Bit.{bitOf}
 use Rattle.machine.specs.Memory.{mem}
 use Rattle.machine.specs.Answers.{one, Outcome}
-use Rattle.machine.specs.Calls.{SequencerCall, seqReset, seqSetClockChangePending, seqPollClockChange, seqWriteAddress, seqWriteData, GraphicsCall, gcReset, gcWriteAddress, gcWriteData, CpuCall, cpuRead, cpuWrite}
+use Rattle.machine.specs.Calls.{SequencerCall, seqReset, seqSetClockChangePending, seqPollClockChange, seqWriteAddress, seqWriteData}
+use Rattle.machine.specs.Calls.{GraphicsCall, gcReset, gcWriteAddress, gcWriteData, CpuCall, cpuRead, cpuWrite}
 use Rattle.machine.specs.Step.{lifted, sequencerStep, graphicsStep}
 use Rattle.machine.proofs.Computed.{computed}
 use Rattle.answers.proofs.Told.{firstOf}
@@ -37,7 +38,8 @@ seqAt q x mark = record {
 seqLeft : Outcome SequencerRecord → List ℕ
 seqLeft o =
     let s = o .next in
-    o .answer .number ∷ firstOf (o .answer .value) ∷ s .«address_byte» ∷ s .«register_selected» ∷ s .reset ∷ s .«clocking_mode» ∷ s .«map_mask» ∷ s .«character_map_select» ∷ s .«memory_mode» ∷ s .«clock_change_pending» ∷ s .«clock_divisor» ∷ s .«char_clock» ∷ []
+    o .answer .number ∷ firstOf (o .answer .value) ∷ s .«address_byte» ∷ s .«register_selected» ∷ s .reset ∷ s .«clocking_mode» ∷ s .«map_mask»
+    ∷ s .«character_map_select» ∷ s .«memory_mode» ∷ s .«clock_change_pending» ∷ s .«clock_divisor» ∷ s .«char_clock» ∷ []
 
 seqSays : SequencerRecord → SequencerCall → List ℕ
 unfolding seqLeft sequencerHosted
@@ -111,8 +113,9 @@ gcAt q x = record {
 gcLeft : ℕ → ℕ → ControllerRecord → List ℕ
 gcLeft n x g =
     let c = g .stats in
-    (n ∷ x ∷ c .«mode_0_writes» ∷ c .«mode_1_writes» ∷ c .«mode_2_writes» ∷ c .«mode_3_writes» ∷ c .«mode_0_reads» ∷ c .«mode_1_reads» ∷ g .«register_select_byte» ∷ g .«register_selected» ∷ g .«set_reset» ∷ g .«enable_set_reset» ∷ g .«color_compare» ∷ g .«data_rotate» ∷ g .«read_map_select» ∷ g .mode ∷ g .miscellaneous ∷ g .«color_dont_care» ∷ g .bitmask ∷ g .spare ∷ [])
-    ++ g .latches
+    (n ∷ x ∷ c .«mode_0_writes» ∷ c .«mode_1_writes» ∷ c .«mode_2_writes» ∷ c .«mode_3_writes» ∷ c .«mode_0_reads» ∷ c .«mode_1_reads» ∷ [])
+    ++ (g .«register_select_byte» ∷ g .«register_selected» ∷ g .«set_reset» ∷ g .«enable_set_reset» ∷ g .«color_compare» ∷ g .«data_rotate» ∷ g .«read_map_select»
+    ∷ g .mode ∷ g .miscellaneous ∷ g .«color_dont_care» ∷ g .bitmask ∷ g .spare ∷ g .latches)
 
 portLeft : Outcome ControllerRecord → List ℕ
 unfolding gcLeft

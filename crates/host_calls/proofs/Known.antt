@@ -10,8 +10,10 @@ use Rattle.types.specs.Start.{freshGc, freshSeq}
 use Rattle.machine.specs.Memory.{Memory, shape}
 use Rattle.machine.specs.Answers.{Value, Outcome, outcome, answered}
 use Rattle.machine.specs.Deeds.{perform}
-use Rattle.machine.specs.Calls.{SequencerCall, seqReset, seqClock, seqSetClockChangePending, seqPollClockChange, seqReadAddress, seqReadData, seqWriteAddress, seqWriteData, seqNumberOf, seqValue, seqNext, DirectCall, directPlan, GraphicsCall, gcReset, gcNumberOf, gcValue, gcNext, CpuCall, cpuPlan}
-use Rattle.machine.specs.Step.{Device, device, lifted, sequencerStep, directStep, graphicsStep, cpuStep, State, state, Call, vram, sequencer, direct, graphics, cpu, withSeq, withGc, withMemory, withDevice, step, run}
+use Rattle.machine.specs.Calls.{SequencerCall, seqReset, seqClock, seqSetClockChangePending, seqPollClockChange, seqReadAddress, seqReadData, seqWriteAddress, seqWriteData}
+use Rattle.machine.specs.Calls.{seqNumberOf, seqValue, seqNext, DirectCall, directPlan, GraphicsCall, gcReset, gcNumberOf, gcValue, gcNext, CpuCall, cpuPlan}
+use Rattle.machine.specs.Step.{Device, device, lifted, sequencerStep, directStep, graphicsStep, cpuStep}
+use Rattle.machine.specs.Step.{State, state, Call, vram, sequencer, direct, graphics, cpu, withSeq, withGc, withMemory, withDevice, step, run}
 use Rattle.host_records.specs.declared.record.ControllerRecord.{ControllerRecord}
 use Rattle.host_records.specs.declared.record.SequencerRecord.{SequencerRecord}
 use Rattle.host_records.specs.Records.{knownGc, knownSeq, known, controllerOf, controllerRecordOf, sequencerOf, sequencerRecordOf, leftBy, leftTo}
@@ -31,7 +33,8 @@ left-either P zero new old p q = p
 left-either P (suc n) new old p q = q
 
 -- what is left of an outcome means the machine's, where each of the two that it may be does
-left-meant : {S T : Type 0} (f : S → T) (g : T → S) → ((x : S) → g (f x) ≡ x) → (n : ℕ) (v : Value) (new old : S) (kept : T) → g kept ≡ old → lifted g (leftTo f (answered n v new old) kept) ≡ answered n v new old
+left-meant : {S T : Type 0} (f : S → T) (g : T → S) → ((x : S) → g (f x) ≡ x) → (n : ℕ) (v : Value) (new old : S) (kept : T) → g kept ≡ old
+    → lifted g (leftTo f (answered n v new old) kept) ≡ answered n v new old
 left-meant f g back zero v new old kept e = rw (back new)
 left-meant f g back (suc n) v new old kept e = rw e
 
@@ -106,14 +109,17 @@ module _ (v : Value) where
   -- a call that hands the record back
   sequencer-moved : (s : SequencerRecord) (c : SequencerCall) → true ≡ knownSeq s → lifted sequencerOf (sequencerHosted s v c) ≡ sequencerStep (sequencerOf s) c
   unfolding sequencerHosted sequencerStep
-  sequencer-moved s c e = rw (← e) (left-meant sequencerRecordOf sequencerOf sequencer-meant (seqNumberOf (sequencerOf s) c) (seqValue (sequencerOf s) c) (seqNext (sequencerOf s) c) (sequencerOf s) s refl)
+  sequencer-moved s c e =
+      rw (← e) (left-meant sequencerRecordOf sequencerOf sequencer-meant (seqNumberOf (sequencerOf s) c) (seqValue (sequencerOf s) c) (seqNext (sequencerOf s) c) (sequencerOf s) s refl)
 
   -- a call that only asks
-  sequencer-asked : (s : SequencerRecord) (c : SequencerCall) → true ≡ knownSeq s → seqNext (sequencerOf s) c ≡ sequencerOf s → lifted (λ (t : SequencerRecord). sequencerOf s) (sequencerHosted s v c) ≡ sequencerStep (sequencerOf s) c
+  sequencer-asked : (s : SequencerRecord) (c : SequencerCall) → true ≡ knownSeq s → seqNext (sequencerOf s) c ≡ sequencerOf s
+      → lifted (λ (t : SequencerRecord). sequencerOf s) (sequencerHosted s v c) ≡ sequencerStep (sequencerOf s) c
   unfolding sequencerHosted sequencerStep
   sequencer-asked s c e f = rw (← e, f) (answered-same (seqNumberOf (sequencerOf s) c) (seqValue (sequencerOf s) c) (sequencerOf s))
 
-  sequencer-meant-next : (s : SequencerRecord) (c : SequencerCall) → true ≡ knownSeq s → lifted (λ (t : SequencerRecord). sequencerOf (sequencerKept c s t)) (sequencerHosted s v c) ≡ sequencerStep (sequencerOf s) c
+  sequencer-meant-next : (s : SequencerRecord) (c : SequencerCall) → true ≡ knownSeq s
+      → lifted (λ (t : SequencerRecord). sequencerOf (sequencerKept c s t)) (sequencerHosted s v c) ≡ sequencerStep (sequencerOf s) c
   unfolding seqNext
   sequencer-meant-next s seqReset e = sequencer-moved s seqReset e
   sequencer-meant-next s seqClock e = sequencer-asked s seqClock e refl
@@ -127,7 +133,8 @@ module _ (v : Value) where
   graphics-meant-next : (g : ControllerRecord) (c : GraphicsCall) → true ≡ knownGc g → lifted controllerOf (graphicsHosted g v c) ≡ graphicsStep (controllerOf g) c
   unfolding graphicsHosted graphicsStep
   graphics-meant-next g c e =
-      rw (← e) (left-meant (controllerRecordOf (g .spare)) controllerOf (controller-meant (g .spare)) (gcNumberOf (controllerOf g .registers) c) (gcValue (controllerOf g .registers) c) (gcNext (controllerOf g) c) (controllerOf g) g refl)
+      rw (← e) (left-meant (controllerRecordOf (g .spare)) controllerOf (controller-meant (g .spare))
+      (gcNumberOf (controllerOf g .registers) c) (gcValue (controllerOf g .registers) c) (gcNext (controllerOf g) c) (controllerOf g) g refl)
 
   -- the machine's device of what a host holds
   abbrev deviceOf : Held → Device
@@ -136,7 +143,8 @@ module _ (v : Value) where
   cpu-meant-next : (g : ControllerRecord) (s : SequencerRecord) (m : Memory) (c : CpuCall) → true ≡ known g s → lifted deviceOf (cpuHosted g s m v c) ≡ cpuStep (controllerOf g) (sequencerOf s) m c
   unfolding cpuHosted cpuStep
   cpu-meant-next g s m c e =
-      rw (← e) (left-meant (heldOf (g .spare)) deviceOf (λ (d : Device). ap (λ (q : GraphicsController). device q (d .memory)) (controller-meant (g .spare) (d .gc))) (cpuPlan (controllerOf g .registers) (sequencerOf s) (shape m) c .ask .number) _ _ (device (controllerOf g) m) (held g m) refl)
+      rw (← e) (left-meant (heldOf (g .spare)) deviceOf (λ (d : Device). ap (λ (q : GraphicsController). device q (d .memory)) (controller-meant (g .spare) (d .gc)))
+      (cpuPlan (controllerOf g .registers) (sequencerOf s) (shape m) c .ask .number) _ _ (device (controllerOf g) m) (held g m) refl)
 
   direct-meant-next : (s : SequencerRecord) (m : Memory) (c : DirectCall) → true ≡ knownSeq s → directHosted s m v c ≡ directStep (sequencerOf s) m c
   unfolding directHosted directStep perform

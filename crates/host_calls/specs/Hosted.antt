@@ -5,7 +5,8 @@ use mathlib.Core.Bool.{Bool, true, false}
 use mathlib.Core.List.{List, [], _∷_}
 use Rattle.machine.specs.Memory.{Memory}
 use Rattle.machine.specs.Answers.{Value, Said, said, Outcome, outcome}
-use Rattle.machine.specs.Calls.{SequencerCall, seqReset, seqClock, seqSetClockChangePending, seqPollClockChange, seqReadAddress, seqReadData, seqWriteAddress, seqWriteData, DirectCall, GraphicsCall, CpuCall}
+use Rattle.machine.specs.Calls.{SequencerCall, seqReset, seqClock, seqSetClockChangePending, seqPollClockChange, seqReadAddress, seqReadData, seqWriteAddress, seqWriteData}
+use Rattle.machine.specs.Calls.{DirectCall, GraphicsCall, CpuCall}
 use Rattle.machine.specs.Step.{Device, vramStep, sequencerStep, directStep, graphicsStep, cpuStep, State, state, Call, vram, sequencer, direct, graphics, cpu, lifted}
 use Rattle.host_records.specs.declared.record.ControllerRecord.{ControllerRecord}
 use Rattle.host_records.specs.declared.record.SequencerRecord.{SequencerRecord}
