@@ -3,8 +3,8 @@
  * Every call takes any input and says what became of it by a number: 0 is done, anything else is a refusal, and then nothing has changed.
  * Memory is lent for the length of a call: four planes of n bytes each, 1 to 65,536, and a picture of 8n bytes, one for each pixel. Each pointer
  * must be good for as many bytes as are said beside it, and the five must overlap neither one another nor a record; the library reads and writes
- * nothing else and keeps nothing. A flag that is handed in (the pending mark, a0,
- * page) is a number: 0 is clear, any other is set. */
+ * nothing else and keeps nothing.
+ * A flag that is handed in (the pending mark, a0, page) is a number: 0 is clear, any other is set. */
 #ifndef IDDESMAR_H
 #define IDDESMAR_H
 
