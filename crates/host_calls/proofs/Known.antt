@@ -16,13 +16,13 @@ use Rattle.machine.specs.Step.{Device, device, lifted, sequencerStep, directSte
 use Rattle.machine.specs.Step.{State, state, Call, vram, sequencer, direct, graphics, cpu, withSeq, withGc, withMemory, withDevice, step, run}
 use Rattle.host_records.specs.declared.record.ControllerRecord.{ControllerRecord}
 use Rattle.host_records.specs.declared.record.SequencerRecord.{SequencerRecord}
-use Rattle.host_records.specs.Records.{knownGc, knownSeq, known, controllerOf, controllerRecordOf, sequencerOf, sequencerRecordOf, leftBy, leftTo}
+use Rattle.host_records.specs.Records.{knownGc, knownSeq, knownBoth, controllerOf, controllerRecordOf, sequencerOf, sequencerRecordOf, leftBy, leftTo}
 use Rattle.host_records.proofs.Laws.{known-gc, known-seq, controller-known, sequencer-known, controller-meant, sequencer-meant}
 use Rattle.host_calls.specs.Hosted.{Held, held, heldOf, sequencerHosted, directHosted, graphicsHosted, cpuHosted, Host, host, meantBy, sequencerKept, hostStep, hostAnswers}
 
 -- both are known
 abbrev pub Known : Host → Type 0
-Known h = true ≡ known (h .gc) (h .seq)
+Known h = true ≡ knownBoth (h .gc) (h .seq)
 
 both-known : {a b : Bool} → true ≡ a → true ≡ b → true ≡ (a && b)
 both-known p q = ap₂ _&&_ p q
@@ -57,7 +57,7 @@ module _ (v : Value) where
       let o : Outcome GraphicsController = graphicsStep (controllerOf g) c in
       rw (← e) (left-either (λ (t : ControllerRecord). true ≡ knownGc t) (o .answer .number) (controllerRecordOf (g .spare) (o .next)) g (controller-known (g .spare) (o .next)) e)
 
-  cpu-stays : (g : ControllerRecord) (s : SequencerRecord) (m : Memory) (c : CpuCall) → true ≡ known g s → true ≡ knownGc (cpuHosted g s m v c .next .gc)
+  cpu-stays : (g : ControllerRecord) (s : SequencerRecord) (m : Memory) (c : CpuCall) → true ≡ knownBoth g s → true ≡ knownGc (cpuHosted g s m v c .next .gc)
   unfolding cpuHosted
   cpu-stays g s m c e =
       let o : Outcome Device = cpuStep (controllerOf g) (sequencerOf s) m c in
@@ -140,7 +140,7 @@ module _ (v : Value) where
   abbrev deviceOf : Held → Device
   deviceOf d = device (controllerOf (d .gc)) (d .memory)
 
-  cpu-meant-next : (g : ControllerRecord) (s : SequencerRecord) (m : Memory) (c : CpuCall) → true ≡ known g s → lifted deviceOf (cpuHosted g s m v c) ≡ cpuStep (controllerOf g) (sequencerOf s) m c
+  cpu-meant-next : (g : ControllerRecord) (s : SequencerRecord) (m : Memory) (c : CpuCall) → true ≡ knownBoth g s → lifted deviceOf (cpuHosted g s m v c) ≡ cpuStep (controllerOf g) (sequencerOf s) m c
   unfolding cpuHosted cpuStep
   cpu-meant-next g s m c e =
       rw (← e) (left-meant (heldOf (g .spare)) deviceOf (λ (d : Device). ap (λ (q : GraphicsController). device q (d .memory)) (controller-meant (g .spare) (d .gc)))

@@ -19,7 +19,7 @@ use Rattle.answers.specs.Wide.{shownOf}
 use Rattle.host_records.specs.declared.record.StatsRecord.{StatsRecord}
 use Rattle.host_records.specs.declared.record.ControllerRecord.{ControllerRecord}
 use Rattle.host_records.specs.declared.record.SequencerRecord.{SequencerRecord}
-use Rattle.host_records.specs.Records.{knownGc, knownSeq, known, controllerOf, controllerRecordOf, sequencerOf, sequencerRecordOf, statsRecordOf, withStats, leftTo}
+use Rattle.host_records.specs.Records.{knownGc, knownSeq, knownBoth, controllerOf, controllerRecordOf, sequencerOf, sequencerRecordOf, statsRecordOf, withStats, leftTo}
 use Rattle.host_records.proofs.Laws.{record-back, known-gc, left-lifted}
 use Rattle.host_calls.specs.Hosted.{held, heldOf, sequencerHosted, directHosted, graphicsHosted, cpuHosted}
 
@@ -96,20 +96,20 @@ module _ (g : ControllerRecord) (v : Value) (c : GraphicsCall) where
 -- ---- calls on both records and memory
 
 module _ (g : ControllerRecord) (s : SequencerRecord) (m : Memory) (v : Value) (c : CpuCall) where
-  pub cpu-unknown : false ≡ known g s → (a : Said) (h : ControllerRecord) → a ≡ said 6 v → h ≡ g → outcome a (held h m) ≡ cpuHosted g s m v c
+  pub cpu-unknown : false ≡ knownBoth g s → (a : Said) (h : ControllerRecord) → a ≡ said 6 v → h ≡ g → outcome a (held h m) ≡ cpuHosted g s m v c
   unfolding cpuHosted
   cpu-unknown e a h f k = rw (← e, f, k)
 
-  cpu-left : true ≡ known g s → lifted (heldOf (g .spare)) (cpuStep (controllerOf g) (sequencerOf s) m c) ≡ leftTo (heldOf (g .spare)) (cpuStep (controllerOf g) (sequencerOf s) m c) (held g m)
+  cpu-left : true ≡ knownBoth g s → lifted (heldOf (g .spare)) (cpuStep (controllerOf g) (sequencerOf s) m c) ≡ leftTo (heldOf (g .spare)) (cpuStep (controllerOf g) (sequencerOf s) m c) (held g m)
   unfolding cpuStep
   cpu-left e = sym (left-lifted (heldOf (g .spare)) (cpuPlan (controllerOf g .registers) (sequencerOf s) (shape m) c .ask .number) _ _ (device (controllerOf g) m) (held g m) (ap (λ (h : ControllerRecord). held h m) (record-back g (known-gc g s e))))
 
-  pub cpu-known : true ≡ known g s → (g′ : GraphicsController) (s′ : Sequencer) → g′ ≡ controllerOf g → s′ ≡ sequencerOf s → (a b : Said) (n : GraphicsController) (h : ControllerRecord) (m′ : Memory) → b ≡ a → h ≡ controllerRecordOf (g .spare) n
+  pub cpu-known : true ≡ knownBoth g s → (g′ : GraphicsController) (s′ : Sequencer) → g′ ≡ controllerOf g → s′ ≡ sequencerOf s → (a b : Said) (n : GraphicsController) (h : ControllerRecord) (m′ : Memory) → b ≡ a → h ≡ controllerRecordOf (g .spare) n
       → outcome a (device n m′) ≡ cpuStep g′ s′ m c → outcome b (held h m′) ≡ cpuHosted g s m v c
   unfolding cpuHosted
   cpu-known e g′ s′ i j a b n h m′ f k p = rw (← e, f, k) (ap (lifted (heldOf (g .spare))) (p ∙ ap₂ (λ (q : GraphicsController) (t : Sequencer). cpuStep q t m c) i j) ∙ cpu-left e)
 
-  pub cpu-asked : true ≡ known g s → (g′ : GraphicsController) (s′ : Sequencer) → g′ ≡ controllerOf g → s′ ≡ sequencerOf s → (a b : Said) → b ≡ a → outcome a (device g′ m) ≡ cpuStep g′ s′ m c → outcome b (held g m) ≡ cpuHosted g s m v c
+  pub cpu-asked : true ≡ knownBoth g s → (g′ : GraphicsController) (s′ : Sequencer) → g′ ≡ controllerOf g → s′ ≡ sequencerOf s → (a b : Said) → b ≡ a → outcome a (device g′ m) ≡ cpuStep g′ s′ m c → outcome b (held g m) ≡ cpuHosted g s m v c
   cpu-asked e g′ s′ i j a b f p = cpu-known e g′ s′ i j a b g′ g m f (sym (ap (controllerRecordOf (g .spare)) i ∙ record-back g (known-gc g s e))) p
 
 -- the answer of a show, by value
@@ -143,7 +143,7 @@ write-kept g s m x page y =
     plan-kept (cpuPlan (g .registers) s (shape m) (cpuWrite x page y)) g m (write-latches (writeMode (g .registers)) g s m x (offset (g .registers) x page) y)
 
 module _ (g : ControllerRecord) (s : SequencerRecord) (m : Memory) (v : Value) (x : ℕ) (page : Bool) (y : ℕ) where
-  pub cpu-wrote : true ≡ known g s → (g′ : GraphicsController) (s′ : Sequencer) → g′ ≡ controllerOf g → s′ ≡ sequencerOf s → (a b : Said) (n : GraphicsController) (t : StatsRecord) (m′ : Memory) → outcome b t ≡ outcome a (statsRecordOf (n .stats))
+  pub cpu-wrote : true ≡ knownBoth g s → (g′ : GraphicsController) (s′ : Sequencer) → g′ ≡ controllerOf g → s′ ≡ sequencerOf s → (a b : Said) (n : GraphicsController) (t : StatsRecord) (m′ : Memory) → outcome b t ≡ outcome a (statsRecordOf (n .stats))
       → outcome a (device n m′) ≡ cpuStep g′ s′ m (cpuWrite x page y) → outcome b (held (withStats t g) m′) ≡ cpuHosted g s m v (cpuWrite x page y)
   cpu-wrote e g′ s′ i j a b n t m′ f p = cpu-known g s m v (cpuWrite x page y) e g′ s′ i j a b n (withStats t g) m′ (said-of f) stays p
     where

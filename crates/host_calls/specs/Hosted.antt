@@ -10,7 +10,7 @@ use Rattle.machine.specs.Calls.{DirectCall, GraphicsCall, CpuCall}
 use Rattle.machine.specs.Step.{Device, vramStep, sequencerStep, directStep, graphicsStep, cpuStep, State, state, Call, vram, sequencer, direct, graphics, cpu, lifted}
 use Rattle.host_records.specs.declared.record.ControllerRecord.{ControllerRecord}
 use Rattle.host_records.specs.declared.record.SequencerRecord.{SequencerRecord}
-use Rattle.host_records.specs.Records.{knownGc, knownSeq, known, controllerOf, controllerRecordOf, sequencerOf, sequencerRecordOf, leftTo}
+use Rattle.host_records.specs.Records.{knownGc, knownSeq, knownBoth, controllerOf, controllerRecordOf, sequencerOf, sequencerRecordOf, leftTo}
 
 -- the controller's record as a host keeps it, and the memory
 pub record Held : Type 0 where
@@ -44,7 +44,7 @@ graphicsHosted g blank c = hosted (knownGc g) (controllerRecordOf (g .spare)) (g
 
 -- calls on both records and memory
 unfoldable pub cpuHosted : ControllerRecord → SequencerRecord → Memory → Value → CpuCall → Outcome Held
-cpuHosted g s m blank c = hosted (known g s) (heldOf (g .spare)) (cpuStep (controllerOf g) (sequencerOf s) m c) blank (held g m)
+cpuHosted g s m blank c = hosted (knownBoth g s) (heldOf (g .spare)) (cpuStep (controllerOf g) (sequencerOf s) m c) blank (held g m)
 
 -- ---- a host that keeps both records and the memory, call after call
 

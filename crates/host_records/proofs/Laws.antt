@@ -21,7 +21,7 @@ use Rattle.machine.specs.Step.{lifted}
 use Rattle.machine.proofs.Laws.{both}
 use Rattle.host_records.specs.declared.record.ControllerRecord.{ControllerRecord}
 use Rattle.host_records.specs.declared.record.SequencerRecord.{SequencerRecord}
-use Rattle.host_records.specs.Records.{knownGc, knownSeq, known, isSet, controllerOf, controllerRecordOf, sequencerOf, sequencerRecordOf, leftBy, leftTo}
+use Rattle.host_records.specs.Records.{knownGc, knownSeq, knownBoth, isSet, controllerOf, controllerRecordOf, sequencerOf, sequencerRecordOf, leftBy, leftTo}
 
 -- ---- registers by number
 
@@ -43,10 +43,10 @@ number-back (suc (suc (suc (suc (suc (suc (suc (suc (suc n))))))))) h = absurd (
 pub record-back : (g : ControllerRecord) → true ≡ knownGc g → controllerRecordOf (g .spare) (controllerOf g) ≡ g
 record-back g e = rw (number-back (g .«register_selected») (leb-true _ _ (sym e)))
 
-pub known-gc : (g : ControllerRecord) (s : SequencerRecord) → true ≡ known g s → true ≡ knownGc g
+pub known-gc : (g : ControllerRecord) (s : SequencerRecord) → true ≡ knownBoth g s → true ≡ knownGc g
 known-gc g s e = sym (both (knownGc g) (knownSeq s) (sym e) .0)
 
-pub known-seq : (g : ControllerRecord) (s : SequencerRecord) → true ≡ known g s → true ≡ knownSeq s
+pub known-seq : (g : ControllerRecord) (s : SequencerRecord) → true ≡ knownBoth g s → true ≡ knownSeq s
 known-seq g s e = sym (both (knownGc g) (knownSeq s) (sym e) .1)
 
 -- ---- what a record of the machine's means, as a host keeps it

@@ -25,8 +25,8 @@ abbrev pub knownSeq : SequencerRecord → Bool
 knownSeq s = leb (s .«register_selected») 5
 
 -- both
-abbrev pub known : ControllerRecord → SequencerRecord → Bool
-known g s = knownGc g && knownSeq s
+abbrev pub knownBoth : ControllerRecord → SequencerRecord → Bool
+knownBoth g s = knownGc g && knownSeq s
 
 -- a flag that a host hands in, the pending mark, a0 and page: 0 is clear, any other number set
 unfoldable pub isSet : ℕ → Bool

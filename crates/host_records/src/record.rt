@@ -1,6 +1,6 @@
 // The two records as a host keeps them: numbers alone, since neither an enum nor a flag that is neither 0 nor 1 can cross the boundary. The selected register is its number.
 ghost use mathlib.Core.Path.{_≡_};
-ghost use Rattle.host_records.specs.Records.{isSet, statsOf, statsRecordOf, controllerOf, controllerRecordOf, sequencerOf, sequencerRecordOf, knownGc as knowsGc, knownSeq as knowsSeq, known as knows};
+ghost use Rattle.host_records.specs.Records.{isSet, statsOf, statsRecordOf, controllerOf, controllerRecordOf, sequencerOf, sequencerRecordOf, knownGc, knownSeq, knownBoth};
 use types::GraphicsController;
 use types::GraphicsControllerStats;
 use types::GraphicsRegister;
@@ -54,19 +54,19 @@ pub struct SequencerRecord {
 
 // Whether the selected register is a register's number; a host can hand in any byte.
 pub fn known_controller(gc: ControllerRecord) -> bool
-    ensures { λ r. ⌜ r ≡ knowsGc gc ⌝ }
+    ensures { λ r. ⌜ r ≡ knownGc gc ⌝ }
 {
     gc.register_selected <= 8
 }
 
 pub fn known_sequencer(seq: SequencerRecord) -> bool
-    ensures { λ r. ⌜ r ≡ knowsSeq seq ⌝ }
+    ensures { λ r. ⌜ r ≡ knownSeq seq ⌝ }
 {
     seq.register_selected <= 5
 }
 
 pub fn known(gc: ControllerRecord, seq: SequencerRecord) -> bool
-    ensures { λ r. ⌜ r ≡ knows gc seq ⌝ }
+    ensures { λ r. ⌜ r ≡ knownBoth gc seq ⌝ }
 {
     if !known_controller(gc) {
         return false;
