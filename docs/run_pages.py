@@ -12,7 +12,8 @@ import sys
 PAGES = ["README.md", "host/README.md"]
 OUT = "target/pages"
 LIBRARY = "target/staticlib/libhost.a"
-wrong, missing = [], []
+# what is wrong; what is missing on this machine, which with CI=true is wrong too; what is only said
+wrong, missing, notes = [], [], []
 
 
 class Piece:
@@ -73,8 +74,11 @@ def placed(command):
 def compiled(piece, command, program):
     """A line that compiles a host, where this machine has such a compiler; the program must print what the page shows."""
     compiler = command.split()[0]
-    if platform.machine() != "x86_64" or not shutil.which(compiler):
-        lacks(f"no {compiler} that builds for x86-64 was at hand for `{command}`")
+    if platform.machine() != "x86_64":
+        notes.append(f"`{command}` was not run: it builds for x86-64, and this is another kind of processor")
+        return
+    if not shutil.which(compiler):
+        lacks(f"no {compiler} was at hand for `{command}`")
         return
     said, status = run(f"{placed(command)} -o {OUT}/{program} && {OUT}/{program}")
     if status or said.strip() != EXPECTED[program]:
@@ -271,7 +275,7 @@ def rattle(piece):
 def version(piece):
     said = run("rt version")[0].strip()
     if piece.text != said:
-        piece.fails(f"the page says {piece.text}, `rt version` says {said}")
+        notes.append(f"the page names the kit {piece.text}, and the one at hand is {said}")
 
 
 def output(piece, printed):
@@ -315,7 +319,7 @@ def two_prices(piece):
 # The pieces, in their order: page, how the first line starts, what is done with it.
 PIECES = [
     ("README.md", "./run-tape", "shell", "commands"),
-    ("README.md", "rattle-kit", version, "held to `rt version`"),
+    ("README.md", "rattle-kit", version, "compared with `rt version`; another kit is said, and is no failure"),
     ("README.md", "bits  ", None, "a drawing; docs/check looks for every crate of crates.txt in it"),
     ("README.md", "./run-tape", "shell", "commands"),
     ("README.md", "1 3 0 0", output, "held to what the command before prints"),
@@ -375,7 +379,7 @@ def main(listing):
             action(piece, printed)
         elif action and not listing:
             action(piece)
-    for text in wrong + [f"pages: {text}" for text in missing]:
+    for text in wrong + [f"pages: {text}" for text in missing + notes]:
         print(text)
     if wrong or (missing and os.environ.get("CI") == "true"):
         print(f"pages: {len(wrong)} wrong")
