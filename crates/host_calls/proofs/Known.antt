@@ -1,19 +1,21 @@
 -- What the library leaves in a host's records is known: the starts are, and every call that is handed known records leaves known ones. A host that keeps to them is
--- answered what the machine answers, call after call, and so never 6 for a number that selects no register.
+-- answered what the machine answers, call after call, and from the starts never 6.
 use Prim.Native.Nat.{ℕ, zero, suc}
-use mathlib.Core.Path.{_≡_, refl, ap, ap₂, _∙_}
+use mathlib.Core.Logic.{_≢_}
+use mathlib.Core.Path.{_≡_, refl, ap, ap₂, _∙_, subst}
 use mathlib.Core.Bool.{Bool, true, _&&_}
-use mathlib.Core.List.{List, [], _∷_}
+use mathlib.Core.List.{List, [], _∷_, List·Memᴰ}
 use Rattle.types.specs.declared.graphics.GraphicsController.{GraphicsController}
 use Rattle.types.specs.declared.sequencer.Sequencer.{Sequencer}
 use Rattle.types.specs.Start.{freshGc, freshSeq}
 use Rattle.machine.specs.Memory.{Memory, shape}
-use Rattle.machine.specs.Answers.{Value, Outcome, outcome, answered}
+use Rattle.machine.specs.Answers.{Value, Said, Outcome, outcome, answered}
 use Rattle.machine.specs.Deeds.{perform}
 use Rattle.machine.specs.Calls.{SequencerCall, seqReset, seqClock, seqSetClockChangePending, seqPollClockChange, seqReadAddress, seqReadData, seqWriteAddress, seqWriteData}
 use Rattle.machine.specs.Calls.{seqNumberOf, seqValue, seqNext, DirectCall, directPlan, GraphicsCall, gcReset, gcNumberOf, gcValue, gcNext, CpuCall, cpuPlan}
 use Rattle.machine.specs.Step.{Device, device, lifted, sequencerStep, directStep, graphicsStep, cpuStep}
 use Rattle.machine.specs.Step.{State, state, Call, vram, sequencer, direct, graphics, cpu, withSeq, withGc, withMemory, withDevice, step, run}
+use Rattle.machine.proofs.Records.{never-6}
 use Rattle.host_records.specs.declared.record.ControllerRecord.{ControllerRecord}
 use Rattle.host_records.specs.declared.record.SequencerRecord.{SequencerRecord}
 use Rattle.host_records.specs.Records.{knownGc, knownSeq, knownBoth, controllerOf, controllerRecordOf, sequencerOf, sequencerRecordOf, leftBy, leftTo}
@@ -171,3 +173,7 @@ module _ (v : Value) where
   pub started-runs : (x : ℕ) (m : Memory) (cs : List Call) → hostAnswers v (host (controllerRecordOf x freshGc) (sequencerRecordOf freshSeq) m) cs ≡ run (state freshGc freshSeq m) cs .answers
   started-runs x m cs = known-runs (host (controllerRecordOf x freshGc) (sequencerRecordOf freshSeq) m) cs (known-start x m)
       ∙ ap₂ (λ (g : GraphicsController) (s : Sequencer). run (state g s m) cs .answers) (controller-meant x freshGc) (sequencer-meant freshSeq)
+
+  -- and so never 6, whatever the memory and the host's own byte are
+  pub host-never-6 : (x : ℕ) (m : Memory) (cs : List Call) (a : Said) → List·Memᴰ a (hostAnswers v (host (controllerRecordOf x freshGc) (sequencerRecordOf freshSeq) m) cs) → a .number ≢ 6
+  host-never-6 x m cs a h = never-6 m cs a (subst (List·Memᴰ a) (started-runs x m cs) h)
