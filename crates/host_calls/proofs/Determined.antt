@@ -50,5 +50,7 @@ module _ (κs : Lfts 5) (a : Dens κs read-of-kinds.ps) where
   read-of-determined r r′ e e′ p q = ap₂ (λ (a : Answer) (g : ControllerRecord). record { answer = a; gc = g }) (answer-is (r .answer) (r′ .answer) (answer-of p q)) (gc-of p q)
 
 module _ (κs : Lfts 5) (a : Dens κs write-of-kinds.ps) where
-  pub write-of-determined : (r r′ : StatsAnswer) (e e′ : AtExit (endedOf 5 write-of-kinds.ps write-of-kinds.r) κs) → write-of.Post κs a r e → write-of.Post κs a r′ e′ → (r ≡ r′) × (lent (e .1 .1 .0) (e .1 .1 .1 .0) (e .1 .1 .1 .1 .0) (e .1 .1 .1 .1 .1 .0) (e .1 .1 .1 .1 .1 .1 .0) ≡ lent (e′ .1 .1 .0) (e′ .1 .1 .1 .0) (e′ .1 .1 .1 .1 .0) (e′ .1 .1 .1 .1 .1 .0) (e′ .1 .1 .1 .1 .1 .1 .0))
-  write-of-determined r r′ e e′ p q = (ap₂ (λ (a : Answer) (t : StatsRecord). record { answer = a; stats = t }) (answer-is (r .answer) (r′ .answer) (answer-of p q)) (ap (λ (g : ControllerRecord). g .stats) (gc-of p q)), ap (λ (h : Held). h .memory) (next-of p q))
+  pub write-of-determined : (r r′ : StatsAnswer) (e e′ : AtExit (endedOf 5 write-of-kinds.ps write-of-kinds.r) κs) → write-of.Post κs a r e → write-of.Post κs a r′ e′
+      → (r ≡ r′) × (lent (e .1 .1 .0) (e .1 .1 .1 .0) (e .1 .1 .1 .1 .0) (e .1 .1 .1 .1 .1 .0) (e .1 .1 .1 .1 .1 .1 .0) ≡ lent (e′ .1 .1 .0) (e′ .1 .1 .1 .0) (e′ .1 .1 .1 .1 .0) (e′ .1 .1 .1 .1 .1 .0) (e′ .1 .1 .1 .1 .1 .1 .0))
+  write-of-determined r r′ e e′ p q =
+      (ap₂ (λ (a : Answer) (t : StatsRecord). record { answer = a; stats = t }) (answer-is (r .answer) (r′ .answer) (answer-of p q)) (ap (λ (g : ControllerRecord). g .stats) (gc-of p q)), ap (λ (h : Held). h .memory) (next-of p q))

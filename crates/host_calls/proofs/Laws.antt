@@ -85,7 +85,8 @@ module _ (g : ControllerRecord) (v : Value) (c : GraphicsCall) where
   unfolding graphicsStep
   graphics-left e = sym (left-lifted (controllerRecordOf (g .spare)) (gcNumberOf (controllerOf g .registers) c) _ _ (controllerOf g) g (record-back g e))
 
-  pub graphics-known : true ≡ knownGc g → (g′ : GraphicsController) → g′ ≡ controllerOf g → (a : Said) (n : GraphicsController) (o : Outcome ControllerRecord) → o ≡ lifted (controllerRecordOf (g .spare)) (outcome a n)
+  pub graphics-known : true ≡ knownGc g → (g′ : GraphicsController) → g′ ≡ controllerOf g → (a : Said) (n : GraphicsController) (o : Outcome ControllerRecord)
+      → o ≡ lifted (controllerRecordOf (g .spare)) (outcome a n)
       → outcome a n ≡ graphicsStep g′ c → o ≡ graphicsHosted g v c
   unfolding graphicsHosted
   graphics-known e g′ i a n o f p = rw (← e, f) (ap (lifted (controllerRecordOf (g .spare))) (p ∙ ap (λ (q : GraphicsController). graphicsStep q c) i) ∙ graphics-left e)
@@ -102,14 +103,17 @@ module _ (g : ControllerRecord) (s : SequencerRecord) (m : Memory) (v : Value) (
 
   cpu-left : true ≡ knownBoth g s → lifted (heldOf (g .spare)) (cpuStep (controllerOf g) (sequencerOf s) m c) ≡ leftTo (heldOf (g .spare)) (cpuStep (controllerOf g) (sequencerOf s) m c) (held g m)
   unfolding cpuStep
-  cpu-left e = sym (left-lifted (heldOf (g .spare)) (cpuPlan (controllerOf g .registers) (sequencerOf s) (shape m) c .ask .number) _ _ (device (controllerOf g) m) (held g m) (ap (λ (h : ControllerRecord). held h m) (record-back g (known-gc g s e))))
+  cpu-left e =
+      sym (left-lifted (heldOf (g .spare)) (cpuPlan (controllerOf g .registers) (sequencerOf s) (shape m) c .ask .number) _ _ (device (controllerOf g) m) (held g m) (ap (λ (h : ControllerRecord). held h m) (record-back g (known-gc g s e))))
 
-  pub cpu-known : true ≡ knownBoth g s → (g′ : GraphicsController) (s′ : Sequencer) → g′ ≡ controllerOf g → s′ ≡ sequencerOf s → (a b : Said) (n : GraphicsController) (h : ControllerRecord) (m′ : Memory) → b ≡ a → h ≡ controllerRecordOf (g .spare) n
+  pub cpu-known : true ≡ knownBoth g s → (g′ : GraphicsController) (s′ : Sequencer) → g′ ≡ controllerOf g → s′ ≡ sequencerOf s
+      → (a b : Said) (n : GraphicsController) (h : ControllerRecord) (m′ : Memory) → b ≡ a → h ≡ controllerRecordOf (g .spare) n
       → outcome a (device n m′) ≡ cpuStep g′ s′ m c → outcome b (held h m′) ≡ cpuHosted g s m v c
   unfolding cpuHosted
   cpu-known e g′ s′ i j a b n h m′ f k p = rw (← e, f, k) (ap (lifted (heldOf (g .spare))) (p ∙ ap₂ (λ (q : GraphicsController) (t : Sequencer). cpuStep q t m c) i j) ∙ cpu-left e)
 
-  pub cpu-asked : true ≡ knownBoth g s → (g′ : GraphicsController) (s′ : Sequencer) → g′ ≡ controllerOf g → s′ ≡ sequencerOf s → (a b : Said) → b ≡ a → outcome a (device g′ m) ≡ cpuStep g′ s′ m c → outcome b (held g m) ≡ cpuHosted g s m v c
+  pub cpu-asked : true ≡ knownBoth g s → (g′ : GraphicsController) (s′ : Sequencer) → g′ ≡ controllerOf g → s′ ≡ sequencerOf s → (a b : Said) → b ≡ a
+      → outcome a (device g′ m) ≡ cpuStep g′ s′ m c → outcome b (held g m) ≡ cpuHosted g s m v c
   cpu-asked e g′ s′ i j a b f p = cpu-known e g′ s′ i j a b g′ g m f (sym (ap (controllerRecordOf (g .spare)) i ∙ record-back g (known-gc g s e))) p
 
 -- the answer of a show, by value
@@ -143,7 +147,8 @@ write-kept g s m x page y =
     plan-kept (cpuPlan (g .registers) s (shape m) (cpuWrite x page y)) g m (write-latches (writeMode (g .registers)) g s m x (offset (g .registers) x page) y)
 
 module _ (g : ControllerRecord) (s : SequencerRecord) (m : Memory) (v : Value) (x : ℕ) (page : Bool) (y : ℕ) where
-  pub cpu-wrote : true ≡ knownBoth g s → (g′ : GraphicsController) (s′ : Sequencer) → g′ ≡ controllerOf g → s′ ≡ sequencerOf s → (a b : Said) (n : GraphicsController) (t : StatsRecord) (m′ : Memory) → outcome b t ≡ outcome a (statsRecordOf (n .stats))
+  pub cpu-wrote : true ≡ knownBoth g s → (g′ : GraphicsController) (s′ : Sequencer) → g′ ≡ controllerOf g → s′ ≡ sequencerOf s
+      → (a b : Said) (n : GraphicsController) (t : StatsRecord) (m′ : Memory) → outcome b t ≡ outcome a (statsRecordOf (n .stats))
       → outcome a (device n m′) ≡ cpuStep g′ s′ m (cpuWrite x page y) → outcome b (held (withStats t g) m′) ≡ cpuHosted g s m v (cpuWrite x page y)
   cpu-wrote e g′ s′ i j a b n t m′ f p = cpu-known g s m v (cpuWrite x page y) e g′ s′ i j a b n (withStats t g) m′ (said-of f) stays p
     where

@@ -49,11 +49,13 @@ use Rattle.host_records.proofs.left.of_cpu_store.Kinds as of-cpu-store-
 -- ---- records
 
 module _ (κs : Lfts 0) (a : Dens κs known-controller-kinds.ps) where
-  pub known-controller-determined : (r r′ : Bool) (e e′ : AtExit (endedOf 0 known-controller-kinds.ps known-controller-kinds.r) κs) → known-controller.Post κs a r e → known-controller.Post κs a r′ e′ → r ≡ r′
+  pub known-controller-determined : (r r′ : Bool) (e e′ : AtExit (endedOf 0 known-controller-kinds.ps known-controller-kinds.r) κs) → known-controller.Post κs a r e
+      → known-controller.Post κs a r′ e′ → r ≡ r′
   known-controller-determined r r′ e e′ p q = p ∙ sym q
 
 module _ (κs : Lfts 0) (a : Dens κs known-sequencer-kinds.ps) where
-  pub known-sequencer-determined : (r r′ : Bool) (e e′ : AtExit (endedOf 0 known-sequencer-kinds.ps known-sequencer-kinds.r) κs) → known-sequencer.Post κs a r e → known-sequencer.Post κs a r′ e′ → r ≡ r′
+  pub known-sequencer-determined : (r r′ : Bool) (e e′ : AtExit (endedOf 0 known-sequencer-kinds.ps known-sequencer-kinds.r) κs) → known-sequencer.Post κs a r e
+      → known-sequencer.Post κs a r′ e′ → r ≡ r′
   known-sequencer-determined r r′ e e′ p q = p ∙ sym q
 
 module _ (κs : Lfts 0) (a : Dens κs known-kinds.ps) where
@@ -69,11 +71,13 @@ module _ (κs : Lfts 0) (a : Dens κs of-stats-kinds.ps) where
   of-stats-determined r r′ e e′ p q = p ∙ sym q
 
 module _ (κs : Lfts 0) (a : Dens κs to-controller-kinds.ps) where
-  pub to-controller-determined : (r r′ : GraphicsController) (e e′ : AtExit (endedOf 0 to-controller-kinds.ps to-controller-kinds.r) κs) → to-controller.Post κs a r e → to-controller.Post κs a r′ e′ → r ≡ r′
+  pub to-controller-determined : (r r′ : GraphicsController) (e e′ : AtExit (endedOf 0 to-controller-kinds.ps to-controller-kinds.r) κs) → to-controller.Post κs a r e
+      → to-controller.Post κs a r′ e′ → r ≡ r′
   to-controller-determined r r′ e e′ p q = p ∙ sym q
 
 module _ (κs : Lfts 0) (a : Dens κs of-controller-kinds.ps) where
-  pub of-controller-determined : (r r′ : ControllerRecord) (e e′ : AtExit (endedOf 0 of-controller-kinds.ps of-controller-kinds.r) κs) → of-controller.Post κs a r e → of-controller.Post κs a r′ e′ → r ≡ r′
+  pub of-controller-determined : (r r′ : ControllerRecord) (e e′ : AtExit (endedOf 0 of-controller-kinds.ps of-controller-kinds.r) κs) → of-controller.Post κs a r e
+      → of-controller.Post κs a r′ e′ → r ≡ r′
   of-controller-determined r r′ e e′ p q = p ∙ sym q
 
 module _ (κs : Lfts 0) (a : Dens κs to-sequencer-kinds.ps) where
@@ -87,27 +91,33 @@ module _ (κs : Lfts 0) (a : Dens κs of-sequencer-kinds.ps) where
 -- ---- answers with what is left
 
 module _ (κs : Lfts 0) (a : Dens κs unknown-sequencer-kinds.ps) where
-  pub unknown-sequencer-determined : (r r′ : SequencerAnswer) (e e′ : AtExit (endedOf 0 unknown-sequencer-kinds.ps unknown-sequencer-kinds.r) κs) → unknown-sequencer.Post κs a r e → unknown-sequencer.Post κs a r′ e′ → r ≡ r′
+  pub unknown-sequencer-determined : (r r′ : SequencerAnswer) (e e′ : AtExit (endedOf 0 unknown-sequencer-kinds.ps unknown-sequencer-kinds.r) κs) → unknown-sequencer.Post κs a r e
+      → unknown-sequencer.Post κs a r′ e′ → r ≡ r′
   unknown-sequencer-determined r r′ e e′ p q = sequencer-answer-is r r′ p q
 
 module _ (κs : Lfts 0) (a : Dens κs of-sequencer-done-kinds.ps) where
-  pub of-sequencer-done-determined : (r r′ : SequencerAnswer) (e e′ : AtExit (endedOf 0 of-sequencer-done-kinds.ps of-sequencer-done-kinds.r) κs) → of-sequencer-done.Post κs a r e → of-sequencer-done.Post κs a r′ e′ → r ≡ r′
+  pub of-sequencer-done-determined : (r r′ : SequencerAnswer) (e e′ : AtExit (endedOf 0 of-sequencer-done-kinds.ps of-sequencer-done-kinds.r) κs) → of-sequencer-done.Post κs a r e
+      → of-sequencer-done.Post κs a r′ e′ → r ≡ r′
   of-sequencer-done-determined r r′ e e′ p q = sequencer-answer-is r r′ p q
 
 module _ (κs : Lfts 0) (a : Dens κs of-sequencer-flag-kinds.ps) where
-  pub of-sequencer-flag-determined : (r r′ : SequencerAnswer) (e e′ : AtExit (endedOf 0 of-sequencer-flag-kinds.ps of-sequencer-flag-kinds.r) κs) → of-sequencer-flag.Post κs a r e → of-sequencer-flag.Post κs a r′ e′ → r ≡ r′
+  pub of-sequencer-flag-determined : (r r′ : SequencerAnswer) (e e′ : AtExit (endedOf 0 of-sequencer-flag-kinds.ps of-sequencer-flag-kinds.r) κs) → of-sequencer-flag.Post κs a r e
+      → of-sequencer-flag.Post κs a r′ e′ → r ≡ r′
   of-sequencer-flag-determined r r′ e e′ p q = sequencer-answer-is r r′ p q
 
 module _ (κs : Lfts 0) (a : Dens κs unknown-controller-kinds.ps) where
-  pub unknown-controller-determined : (r r′ : ControllerAnswer) (e e′ : AtExit (endedOf 0 unknown-controller-kinds.ps unknown-controller-kinds.r) κs) → unknown-controller.Post κs a r e → unknown-controller.Post κs a r′ e′ → r ≡ r′
+  pub unknown-controller-determined : (r r′ : ControllerAnswer) (e e′ : AtExit (endedOf 0 unknown-controller-kinds.ps unknown-controller-kinds.r) κs) → unknown-controller.Post κs a r e
+      → unknown-controller.Post κs a r′ e′ → r ≡ r′
   unknown-controller-determined r r′ e e′ p q = controller-answer-is r r′ p q
 
 module _ (κs : Lfts 0) (a : Dens κs of-graphics-done-kinds.ps) where
-  pub of-graphics-done-determined : (r r′ : ControllerAnswer) (e e′ : AtExit (endedOf 0 of-graphics-done-kinds.ps of-graphics-done-kinds.r) κs) → of-graphics-done.Post κs a r e → of-graphics-done.Post κs a r′ e′ → r ≡ r′
+  pub of-graphics-done-determined : (r r′ : ControllerAnswer) (e e′ : AtExit (endedOf 0 of-graphics-done-kinds.ps of-graphics-done-kinds.r) κs) → of-graphics-done.Post κs a r e
+      → of-graphics-done.Post κs a r′ e′ → r ≡ r′
   of-graphics-done-determined r r′ e e′ p q = controller-answer-is r r′ p q
 
 module _ (κs : Lfts 0) (a : Dens κs unknown-counters-kinds.ps) where
-  pub unknown-counters-determined : (r r′ : StatsAnswer) (e e′ : AtExit (endedOf 0 unknown-counters-kinds.ps unknown-counters-kinds.r) κs) → unknown-counters.Post κs a r e → unknown-counters.Post κs a r′ e′ → r ≡ r′
+  pub unknown-counters-determined : (r r′ : StatsAnswer) (e e′ : AtExit (endedOf 0 unknown-counters-kinds.ps unknown-counters-kinds.r) κs) → unknown-counters.Post κs a r e
+      → unknown-counters.Post κs a r′ e′ → r ≡ r′
   unknown-counters-determined r r′ e e′ p q = stats-answer-is r r′ p q
 
 module _ (κs : Lfts 0) (a : Dens κs of-cpu-store-kinds.ps) where

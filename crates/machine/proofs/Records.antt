@@ -23,7 +23,8 @@ use Rattle.machine.specs.Sequencer.{withSeqAddress, seqNumber, seqKeeps,
 use Rattle.machine.specs.Calls.{VramCall, readU8, peekU8, readGlyph, readLinear, serializeLinear, writeU8, planeSet, planeAnd, planeOr, deplane}
 use Rattle.machine.specs.Calls.{SequencerCall, seqReset, seqClock, seqSetClockChangePending, seqPollClockChange, seqReadAddress, seqReadData, seqWriteAddress, seqWriteData, seqNumberOf, seqNext}
 use Rattle.machine.specs.Calls.{DirectCall, seqCpuReadU8, seqPeekU8, seqGcReadU8, seqReadLinear, seqSerializeLinear, seqPlaneSet, seqPlaneAnd, seqPlaneOr}
-use Rattle.machine.specs.Calls.{GraphicsCall, gcReset, gcChain, gcChain4, gcMemoryMap, gcOddEven, gcShiftMode, gcReadAddress, gcReadData, gcWriteAddress, gcWriteData, gcMapAddress, gcNumberOf, gcNext}
+use Rattle.machine.specs.Calls.{GraphicsCall, gcReset, gcChain, gcChain4, gcMemoryMap, gcOddEven, gcShiftMode, gcReadAddress, gcReadData, gcWriteAddress, gcWriteData, gcMapAddress}
+use Rattle.machine.specs.Calls.{gcNumberOf, gcNext}
 use Rattle.machine.specs.Calls.{CpuCall, cpuRead, cpuPeek, cpuWrite, serialize, cpuPlan}
 use Rattle.machine.specs.Step.{sequencerStep, graphicsStep, Device, cpuStep, State, Call, vram, sequencer, direct, graphics, cpu, step, run}
 use Rattle.machine.specs.Claims.{Check, RightGc, RightSeq, vramChecks, sequencerChecks, directChecks, graphicsChecks, cpuChecks, checks, Given, done, here, later, RightRecords, atStart}

@@ -11,7 +11,8 @@ use Rattle.types.proofs.sequencer.Sequencer.new.Reads as new-sequencer
 use Rattle.types.proofs.sequencer.Sequencer.new.Kinds as new-sequencer-kinds
 
 module _ (κs : Lfts 0) (a : Dens κs new-controller-kinds.ps) where
-  pub new-controller-determined : (r r′ : GraphicsController) (e e′ : AtExit (endedOf 0 new-controller-kinds.ps new-controller-kinds.r) κs) → new-controller.Post κs a r e → new-controller.Post κs a r′ e′ → r ≡ r′
+  pub new-controller-determined : (r r′ : GraphicsController) (e e′ : AtExit (endedOf 0 new-controller-kinds.ps new-controller-kinds.r) κs) → new-controller.Post κs a r e
+      → new-controller.Post κs a r′ e′ → r ≡ r′
   new-controller-determined r r′ e e′ p q = p ∙ sym q
 
 module _ (κs : Lfts 0) (a : Dens κs new-sequencer-kinds.ps) where
