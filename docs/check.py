@@ -156,6 +156,9 @@ def check_names(page, line, text):
     for crate, must_fail, listed in re.findall(rf"(?:\b(?=\w+')|(?<=[|;] )(?=\w+:))(\w+)(?:'s?|:) (must-fail )?({LIST})", text):
         if crate in crates:
             in_crate(page, line, crate, must_fail, listed)
+    for owner in re.findall(r"(?<![\w`/.-])([a-z]+(?:_[a-z0-9]+)+)'", text):
+        if owner not in names:
+            tell(page, line, f"{owner} is said to have something, and is no crate and no name of the tree")
     for listed in re.findall(rf"(?<!' )(?<!'s )must-fail ({LIST})", text):
         for name in words(listed):
             if not name.endswith("..") and name not in edits:

@@ -1,4 +1,4 @@
-// The two records as a host keeps them: numbers alone, since neither an enum nor a flag that is neither 0 nor 1 can cross the boundary. The selected register is its number.
+// The two records as a host keeps them, numbers alone: no enum can cross the boundary, and C hands in flags that are neither 0 nor 1. The selected register is its number.
 ghost use mathlib.Core.Path.{_≡_};
 ghost use Rattle.host_records.specs.Records.{isSet, statsOf, statsRecordOf, controllerOf, controllerRecordOf, sequencerOf, sequencerRecordOf, knownGc, knownSeq, knownBoth};
 use types::GraphicsController;
