@@ -125,12 +125,12 @@ fn made(
     p3: &mut [u8],
     picture: &mut [u8],
 ) -> Session {
-    if !list_stores::is_store(call.operation) {
+    if !list_calls::store_call::is_store(call.operation) {
         return asked(session, call, p0, p1, p2, p3, picture);
     }
     let gc = session.gc;
     let seq = session.seq;
-    let left = list_stores::stores(call, gc, seq, p0, p1, p2, p3, picture);
+    let left = list_calls::store_call::stores(call, gc, seq, p0, p1, p2, p3, picture);
     with_controller(session, call.operation, left)
 }
 
@@ -209,7 +209,7 @@ fn whole(session: Session, p0: &[u8], p1: &[u8], p2: &[u8], p3: &[u8], picture: 
     let seq = session.seq;
     let mut at = print::digits(&mut out, 0, session.calls);
     at = print::number(&mut out, at, 0);
-    at = list_digest::text(gc, seq, p0, p1, p2, p3, picture, &mut out, at);
+    at = list_lines::digest::text(gc, seq, p0, p1, p2, p3, picture, &mut out, at);
     print::end(&mut out, at);
 }
 

@@ -12,14 +12,14 @@ use Rattle.types.specs.declared.answer.Refusal.{Refusal}
 use Rattle.types.specs.declared.answer.MappedAnswer.{MappedAnswer}
 use Rattle.types.specs.declared.answer.MappedAnswer.the-variants.{Done as MappedDone, Refused as MappedRefused}
 use Rattle.types.specs.declared.place.PlaneOffset.{PlaneOffset}
-use Rattle.types.specs.declared.graphics.WriteMode.{WriteMode}
-use Rattle.types.specs.declared.graphics.WriteMode.the-variants.{Mode0, Mode1, Mode2, Invalid}
-use Rattle.types.specs.declared.graphics.GraphicsRegisters.{GraphicsRegisters}
-use Rattle.types.specs.declared.graphics.GraphicsController.{GraphicsController}
-use Rattle.types.specs.declared.graphics.MemoryMap.{MemoryMap}
-use Rattle.types.specs.declared.graphics.ReadMode.{ReadMode}
-use Rattle.types.specs.declared.graphics.ReadMode.the-variants.{ReadSelectedPlane, ReadComparedPlanes}
-use Rattle.types.specs.declared.sequencer.Sequencer.{Sequencer}
+use Rattle.types.specs.declared.gc.WriteMode.{WriteMode}
+use Rattle.types.specs.declared.gc.WriteMode.the-variants.{Mode0, Mode1, Mode2, Invalid}
+use Rattle.types.specs.declared.gc.GraphicsRegisters.{GraphicsRegisters}
+use Rattle.types.specs.declared.gc.GraphicsController.{GraphicsController}
+use Rattle.types.specs.declared.gc.MemoryMap.{MemoryMap}
+use Rattle.types.specs.declared.gc.ReadMode.{ReadMode}
+use Rattle.types.specs.declared.gc.ReadMode.the-variants.{ReadSelectedPlane, ReadComparedPlanes}
+use Rattle.types.specs.declared.seq.Sequencer.{Sequencer}
 use Rattle.types.specs.declared.shape.Shape.{Shape}
 use Rattle.machine.specs.Memory.{Memory, shape, sound}
 use Rattle.machine.specs.Answers.{refusalNumber, Value, one, two, blank, Said, said, part, Outcome, outcome, answered, mappedSaid}
@@ -31,8 +31,8 @@ use Rattle.machine.specs.Deeds.{byte, latch, loaded, latchesAfter, memoryAfter,
 use Rattle.machine.specs.Calls.{refuse, fitsBoth, accessNumber, shows, showNumber, CpuPlan, counted, readCounter, writeCounter, readReply, writeDeed, cpuPlan, cpuRead, cpuPeek, cpuWrite, serialize}
 use Rattle.machine.specs.Step.{device, lifted, cpuPerform, cpuStep}
 use Rattle.machine.proofs.Laws.{both, refuse-0, sound-facts, AtOffset, answered-refused}
-use Rattle.record_judges.proofs.Held.{map-select-fits}
-use Rattle.judges.proofs.Windows.{left}
+use Rattle.refusals_records.proofs.Held.{map-select-fits}
+use Rattle.refusals_access.proofs.Windows.{left}
 use Rattle.graphics_controller.specs.Reads.{readByte}
 
 -- ---- what an answer says of an address

@@ -11,7 +11,7 @@ use Rattle.types.specs.declared.answer.ByteAnswer.{ByteAnswer}
 use Rattle.types.specs.declared.answer.StoreAnswer.{StoreAnswer}
 use Rattle.types.specs.declared.answer.CpuByte.{CpuByte}
 use Rattle.types.specs.declared.answer.CpuStore.{CpuStore}
-use Rattle.types.specs.declared.graphics.GraphicsController.{GraphicsController}
+use Rattle.types.specs.declared.gc.GraphicsController.{GraphicsController}
 use Rattle.machine.specs.Memory.{Memory, lent}
 use Rattle.machine.specs.Answers.{Said, Outcome, outcome, byteSaid, storeSaid}
 use Rattle.machine.specs.Step.{Device, device}

@@ -9,12 +9,14 @@ ghost use Rattle.machine.specs.Deeds.{loaded};
 ghost use Rattle.machine.specs.Calls.{counted, readCounter, writeCounter, cpuRead, cpuPeek, cpuWrite};
 ghost use Rattle.machine.specs.Step.{device, cpuStep};
 ghost use Rattle.graphics_controller.specs.Reads.{readByte};
-use judges::judge_address;
-use memory_judges::shaped;
-use read_path::counted_read;
-use read_path::pixel_op_compare;
-use read_path::selected_plane;
-use record_judges::fits_both;
+use graphics_paths::counted_read;
+use graphics_paths::counted_write;
+use graphics_paths::pixel_op_compare;
+use graphics_paths::selected_plane;
+use graphics_visits::inner::write_planes;
+use refusals_access::judge_address;
+use refusals_memory::shaped;
+use refusals_records::fits_both;
 use types::ByteAnswer;
 use types::CpuByte;
 use types::CpuStore;
@@ -25,8 +27,6 @@ use types::ReadMode;
 use types::Sequencer;
 use types::Shape;
 use types::StoreAnswer;
-use visits::inner::write_planes;
-use write_path::counted_write;
 
 // The four planes' bytes at an offset.
 fn load(p0: &[u8], p1: &[u8], p2: &[u8], p3: &[u8], picture: &[u8], at: usize) -> [u8; 4]

@@ -5,7 +5,7 @@ mod show;
 pub use access::cpu_peek_u8;
 pub use access::cpu_read_u8;
 pub use access::cpu_write_u8;
-pub use address_map::map_address;
+pub use graphics_address::map_address;
 pub use graphics_registers::chain;
 pub use graphics_registers::chain4;
 pub use graphics_registers::memory_map;

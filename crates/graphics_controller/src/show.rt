@@ -4,7 +4,7 @@ ghost use Rattle.machine.specs.Memory.{before};
 ghost use Rattle.machine.specs.Answers.{outcome, partSaid};
 ghost use Rattle.machine.specs.Calls.{serialize as serializes};
 ghost use Rattle.machine.specs.Step.{device, cpuStep};
-use judges::judge_show;
+use refusals_access::judge_show;
 use types::DoneAnswer;
 use types::GraphicsController;
 use types::PlaneOffset;
@@ -39,7 +39,7 @@ pub fn serialize<'a, 'b, 'c, 'd, 'p, 'n>(
         }
         DoneAnswer::Done => {
             *number = 0;
-            pixels::inner::eight(picture, offset)
+            vram_pixels::inner::eight(picture, offset)
         }
     }
 }

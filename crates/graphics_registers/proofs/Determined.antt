@@ -11,7 +11,7 @@ use Rattle.types.specs.declared.answer.MapAnswer.{MapAnswer}
 use Rattle.types.specs.declared.answer.OddEvenAnswer.{OddEvenAnswer}
 use Rattle.types.specs.declared.answer.ShiftAnswer.{ShiftAnswer}
 use Rattle.types.specs.declared.answer.GraphicsDone.{GraphicsDone}
-use Rattle.types.specs.declared.graphics.GraphicsController.{GraphicsController}
+use Rattle.types.specs.declared.gc.GraphicsController.{GraphicsController}
 use Rattle.machine.specs.Answers.{Outcome, outcome, doneSaid}
 use Rattle.machine.proofs.Injective.{answer-of, next-of, byte-injective, done-injective, flag-injective, map-injective, odd-even-injective, shift-injective}
 use Rattle.graphics_registers.proofs.registers.reset.Reads as reset

@@ -4,7 +4,7 @@ ghost use Rattle.machine.specs.Answers.{said, one, outcome, byteSaid, doneSaid,
 ghost use Rattle.machine.specs.Graphics.{gcOf, withAddress, withData, dataOf};
 ghost use Rattle.machine.specs.Calls.{isChain4, gcReset, gcChain, gcChain4, gcMemoryMap, gcOddEven, gcShiftMode, gcReadAddress, gcReadData, gcWriteAddress, gcWriteData};
 ghost use Rattle.machine.specs.Step.{graphicsStep};
-use record_judges::fits_gc;
+use refusals_records::fits_gc;
 use types::ByteAnswer;
 use types::DoneAnswer;
 use types::FlagAnswer;

@@ -4,8 +4,8 @@ use mathlib.Core.Bool.{Bool}
 use contract.Lifetimes.{Lfts}
 use denote.Triple.Clauses.{AtExit}
 use borrow.Fn.Kinds.{Dens, endedOf}
-use Rattle.types.specs.declared.graphics.GraphicsController.{GraphicsController}
-use Rattle.types.specs.declared.sequencer.Sequencer.{Sequencer}
+use Rattle.types.specs.declared.gc.GraphicsController.{GraphicsController}
+use Rattle.types.specs.declared.seq.Sequencer.{Sequencer}
 use Rattle.host_records.specs.declared.record.ControllerRecord.{ControllerRecord}
 use Rattle.host_records.specs.declared.record.SequencerRecord.{SequencerRecord}
 use Rattle.host_records.specs.declared.record.StatsRecord.{StatsRecord}

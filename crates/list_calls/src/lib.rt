@@ -1,4 +1,5 @@
-// The calls of a list that store nothing, made: each operation is one call of the port. Those that store stand in `list_stores`.
+// The calls of a list, made: each operation is one call of the port.
 pub mod graphics_call;
 pub mod memory_call;
 pub mod sequencer_call;
+pub mod store_call;

@@ -8,8 +8,8 @@ use lib.Dec.{eqb, ltb}
 use borrow.Author.Tests.{ltb-true, leb-true, eqb-true}
 use Rattle.types.specs.declared.answer.Refusal.{Refusal}
 use Rattle.types.specs.declared.answer.Refusal.the-variants.{Memory as NoMemory, Window, Offset, Plane, Place, State, Damaged, Range, Shift, Room}
-use Rattle.types.specs.declared.graphics.GraphicsRegisters.{GraphicsRegisters}
-use Rattle.types.specs.declared.sequencer.Sequencer.{Sequencer}
+use Rattle.types.specs.declared.gc.GraphicsRegisters.{GraphicsRegisters}
+use Rattle.types.specs.declared.seq.Sequencer.{Sequencer}
 use Rattle.types.specs.declared.shape.Shape.{Shape}
 use Rattle.machine.specs.Memory.{Memory, size, sound, Sound}
 use Rattle.machine.specs.Answers.{refusalNumber, Value, blank, said, outcome, answered}

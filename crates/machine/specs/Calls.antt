@@ -3,16 +3,16 @@ use Prim.Native.Nat.{ℕ, _+_, _*_, _%_, _^_, min, max}
 use mathlib.Core.Bool.{Bool, true, false, _&&_}
 use lib.Dec.{eqb, ltb, leb}
 use Rattle.bits.specs.Bit.{bit, bitOf, pick}
-use Rattle.types.specs.declared.graphics.GraphicsRegisters.{GraphicsRegisters}
-use Rattle.types.specs.declared.graphics.GraphicsControllerStats.{GraphicsControllerStats}
-use Rattle.types.specs.declared.graphics.GraphicsController.{GraphicsController}
-use Rattle.types.specs.declared.graphics.ReadMode.{ReadMode}
-use Rattle.types.specs.declared.graphics.ReadMode.the-variants.{ReadSelectedPlane, ReadComparedPlanes}
-use Rattle.types.specs.declared.graphics.WriteMode.{WriteMode}
-use Rattle.types.specs.declared.graphics.WriteMode.the-variants.{Mode0, Mode1, Mode2, Invalid}
-use Rattle.types.specs.declared.graphics.ShiftMode.{ShiftMode}
-use Rattle.types.specs.declared.graphics.ShiftMode.the-variants.{Standard, CGACompatible, Chain4, Unused}
-use Rattle.types.specs.declared.sequencer.Sequencer.{Sequencer}
+use Rattle.types.specs.declared.gc.GraphicsRegisters.{GraphicsRegisters}
+use Rattle.types.specs.declared.gc.GraphicsControllerStats.{GraphicsControllerStats}
+use Rattle.types.specs.declared.gc.GraphicsController.{GraphicsController}
+use Rattle.types.specs.declared.gc.ReadMode.{ReadMode}
+use Rattle.types.specs.declared.gc.ReadMode.the-variants.{ReadSelectedPlane, ReadComparedPlanes}
+use Rattle.types.specs.declared.gc.WriteMode.{WriteMode}
+use Rattle.types.specs.declared.gc.WriteMode.the-variants.{Mode0, Mode1, Mode2, Invalid}
+use Rattle.types.specs.declared.gc.ShiftMode.{ShiftMode}
+use Rattle.types.specs.declared.gc.ShiftMode.the-variants.{Standard, CGACompatible, Chain4, Unused}
+use Rattle.types.specs.declared.seq.Sequencer.{Sequencer}
 use Rattle.types.specs.declared.shape.Shape.{Shape}
 use Rattle.machine.specs.Memory.{size, sound}
 use Rattle.machine.specs.Answers.{Value, one, two, mapNumber, oddEvenNumber, shiftNumber}

@@ -5,11 +5,11 @@ use mathlib.Core.List.{[], _∷_}
 use lib.Dec.{eqb, leb}
 use lib.ListN.{getD}
 use Rattle.bits.specs.Bit.{bit, field, isOne, bitOf, pick}
-use Rattle.types.specs.declared.sequencer.SequencerRegister.{SequencerRegister}
-use Rattle.types.specs.declared.sequencer.SequencerRegister.the-variants.{Reset, ClockingMode, MapMask, CharacterMapSelect, MemoryMode, Invalid}
-use Rattle.types.specs.declared.sequencer.OddEvenMode.{OddEvenMode}
-use Rattle.types.specs.declared.sequencer.OddEvenMode.the-variants.{OddEven, Sequential}
-use Rattle.types.specs.declared.sequencer.Sequencer.{Sequencer}
+use Rattle.types.specs.declared.seq.SequencerRegister.{SequencerRegister}
+use Rattle.types.specs.declared.seq.SequencerRegister.the-variants.{Reset, ClockingMode, MapMask, CharacterMapSelect, MemoryMode, Invalid}
+use Rattle.types.specs.declared.seq.OddEvenMode.{OddEvenMode}
+use Rattle.types.specs.declared.seq.OddEvenMode.the-variants.{OddEven, Sequential}
+use Rattle.types.specs.declared.seq.Sequencer.{Sequencer}
 
 -- ---- the address register
 

@@ -4,7 +4,7 @@ use mathlib.Core.Path.{_≡_, refl, _∙_}
 use mathlib.Core.Bool.{Bool, true, false}
 use mathlib.Core.List.{[]}
 use lib.Dec.{eqb}
-use Rattle.types.specs.declared.sequencer.Sequencer.{Sequencer}
+use Rattle.types.specs.declared.seq.Sequencer.{Sequencer}
 use Rattle.types.specs.declared.answer.Refusal.{Refusal}
 use Rattle.machine.specs.Memory.{Memory}
 use Rattle.types.specs.declared.answer.DoneAnswer.{DoneAnswer}
@@ -15,13 +15,13 @@ use Rattle.machine.specs.Sequencer.{inMask, storedAt}
 use Rattle.machine.specs.Calls.{storeOne, directPlan}
 use Rattle.machine.specs.Step.{directStep}
 use Rattle.machine.proofs.Laws.{refusal-some, perform-done, perform-refused, stored-none}
-use Rattle.memory_judges.proofs.Told.{as-told}
-use Rattle.planes.specs.Stores.{combines, storeBit}
-use Rattle.planes.proofs.Stores.{store-one}
-use Rattle.planes.specs.declared.kind.PlaneStore.{PlaneStore}
-use Rattle.planes.specs.declared.kind.PlaneStore.the-variants.{Set, And, Or}
+use Rattle.refusals_memory.proofs.Told.{as-told}
+use Rattle.vram_planes.specs.Stores.{combines, storeBit}
+use Rattle.vram_planes.proofs.Stores.{store-one}
+use Rattle.vram_planes.specs.declared.kind.PlaneStore.{PlaneStore}
+use Rattle.vram_planes.specs.declared.kind.PlaneStore.the-variants.{Set, And, Or}
 use Rattle.sequencer.specs.Direct.{directStoreCall}
-use Rattle.sequencer_reads.proofs.Laws.{Judged}
+use Rattle.refusals_access.proofs.DirectJudged.{Judged}
 
 -- a direct store's memory, whatever its kind: through the mask, or stopped by it
 module _ (k : PlaneStore) (s : Sequencer) (m : Memory) (p o : ℕ) (a : Bool) (x : ℕ) (h : p ≤ 3) where

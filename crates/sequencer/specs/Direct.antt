@@ -2,8 +2,8 @@
 use Prim.Native.Nat.{ℕ}
 use mathlib.Core.Bool.{Bool}
 use Rattle.machine.specs.Calls.{DirectCall, seqPlaneSet, seqPlaneAnd, seqPlaneOr}
-use Rattle.planes.specs.declared.kind.PlaneStore.{PlaneStore}
-use Rattle.planes.specs.declared.kind.PlaneStore.the-variants.{Set, And, Or}
+use Rattle.vram_planes.specs.declared.kind.PlaneStore.{PlaneStore}
+use Rattle.vram_planes.specs.declared.kind.PlaneStore.the-variants.{Set, And, Or}
 
 -- the machine's store of that kind
 abbrev pub directStoreCall : PlaneStore → ℕ → ℕ → Bool → ℕ → DirectCall

@@ -10,15 +10,16 @@ ghost use Rattle.machine.specs.Deeds.{memoryAfter};
 ghost use Rattle.machine.specs.Sequencer.{fitsSeq, inMask, storedAt};
 ghost use Rattle.machine.specs.Calls.{storeOne, seqPlaneSet, seqPlaneAnd, seqPlaneOr};
 ghost use Rattle.machine.specs.Step.{directStep};
-ghost use Rattle.planes.specs.Stores.{storeBit};
+ghost use Rattle.vram_planes.specs.Stores.{storeBit};
 ghost use Rattle.sequencer.specs.Direct.{directStoreCall};
-use plane_masks::inner;
-use planes::PlaneStore;
+use refusals_access::judge_direct;
+use sequencer_masks::inner;
 use types::DoneAnswer;
 use types::PlaneOffset;
 use types::Sequencer;
 use types::Shape;
 use types::StoreAnswer;
+use vram_planes::PlaneStore;
 
 // A store, already judged: where the mask has the plane, its byte and its eight pixels; else nothing.
 fn store_masked(
@@ -40,7 +41,7 @@ fn store_masked(
     let mask = inner::mask(seq, offset, a0);
     if mask & (1 << plane) != 0 {
         let at = inner::stored_at(seq, offset);
-        planes::inner::store(p0, p1, p2, p3, picture, plane, at, kind, byte);
+        vram_planes::inner::store(p0, p1, p2, p3, picture, plane, at, kind, byte);
     }
 }
 
@@ -67,7 +68,7 @@ fn plane_store(
         p3: p3.len(),
         picture: picture.len(),
     };
-    match sequencer_reads::judge_direct(seq, shape, plane, offset) {
+    match judge_direct(seq, shape, plane, offset) {
         DoneAnswer::Refused(x) => StoreAnswer::Refused(x),
         DoneAnswer::Done => {
             let at = offset.0;

@@ -1,12 +1,12 @@
-// The sequencer's direct calls that only read memory, the offset taken as it stands, `gc_read_u8` excepted; and the judge that its stores share.
+// The sequencer's direct calls that only read memory, the offset taken as it stands, `gc_read_u8` excepted.
 ghost use mathlib.Core.Path.{_≡_};
 ghost use Rattle.machine.specs.Memory.{before};
-ghost use Rattle.machine.specs.Answers.{outcome, byteSaid, pixelSaid, doneSaid, partSaid};
-ghost use Rattle.machine.specs.Sequencer.{fitsSeq};
-ghost use Rattle.machine.specs.Calls.{refuse, planeNumber, seqCpuReadU8, seqGcReadU8, seqPeekU8, seqReadLinear, seqSerializeLinear};
+ghost use Rattle.machine.specs.Answers.{outcome, byteSaid, pixelSaid, partSaid};
+ghost use Rattle.machine.specs.Calls.{seqCpuReadU8, seqGcReadU8, seqPeekU8, seqReadLinear, seqSerializeLinear};
 ghost use Rattle.machine.specs.Step.{directStep};
 ghost use Rattle.sequencer_reads.specs.Reads.{readAt, readCall};
-use plane_masks::inner;
+use refusals_access::judge_direct;
+use sequencer_masks::inner;
 use types::ByteAnswer;
 use types::DoneAnswer;
 use types::PixelPlace;
@@ -14,16 +14,6 @@ use types::PlaneOffset;
 use types::Refusal;
 use types::Sequencer;
 use types::Shape;
-
-// Refusals 6, 1, 4, 3: of a call that names a plane and an offset.
-pub fn judge_direct(seq: Sequencer, shape: Shape, plane: usize, offset: PlaneOffset) -> DoneAnswer
-    ensures { λ r. ⌜ doneSaid r .number ≡ refuse (fitsSeq seq) 6 (planeNumber shape plane (offset .0)) ⌝ }
-{
-    if !record_judges::fits_seq(seq) {
-        return DoneAnswer::Refused(Refusal::State);
-    }
-    memory_judges::judge_plane(shape, plane, offset)
-}
 
 // How a read by plane takes its offset: as it stands, or where chain-four leads.
 enum PlaneRead {
@@ -66,7 +56,7 @@ fn plane_read(
         DoneAnswer::Refused(x) => ByteAnswer::Refused(x),
         DoneAnswer::Done => {
             let at = read_at(seq, offset.0, kind);
-            ByteAnswer::Done(planes::inner::byte(p0, p1, p2, p3, picture, plane, at))
+            ByteAnswer::Done(vram_planes::inner::byte(p0, p1, p2, p3, picture, plane, at))
         }
     }
 }
@@ -136,7 +126,7 @@ pub fn read_linear(
 ) -> ByteAnswer
     ensures { λ r. ⌜ outcome (pixelSaid r) (before p0 p1 p2 p3 picture) ≡ directStep seq (before p0 p1 p2 p3 picture) (seqReadLinear (place .0)) ⌝ }
 {
-    if !record_judges::fits_seq(seq) {
+    if !refusals_records::fits_seq(seq) {
         return ByteAnswer::Refused(Refusal::State);
     }
     vram_reads::read_linear(p0, p1, p2, p3, picture, place)
@@ -155,7 +145,7 @@ pub fn serialize_linear<'a, 'b, 'c, 'd, 'p, 'n>(
 ) -> &'p [u8]
     ensures { λ r. ⌜ outcome (partSaid (now (number .exit)) (now r)) (before p0 p1 p2 p3 picture) ≡ directStep seq (before p0 p1 p2 p3 picture) (seqSerializeLinear (offset .0)) ⌝ }
 {
-    if !record_judges::fits_seq(seq) {
+    if !refusals_records::fits_seq(seq) {
         *number = fields::refusal_number(Refusal::State);
         return &picture[0..0];
     }

@@ -9,7 +9,7 @@ use Rattle.types.specs.declared.answer.DoneAnswer.{DoneAnswer}
 use Rattle.types.specs.declared.answer.FlagAnswer.{FlagAnswer}
 use Rattle.types.specs.declared.answer.SequencerDone.{SequencerDone}
 use Rattle.types.specs.declared.answer.SequencerFlag.{SequencerFlag}
-use Rattle.types.specs.declared.sequencer.Sequencer.{Sequencer}
+use Rattle.types.specs.declared.seq.Sequencer.{Sequencer}
 use Rattle.machine.specs.Answers.{Outcome, outcome, doneSaid, flagSaid}
 use Rattle.machine.proofs.Injective.{answer-of, next-of, byte-injective, done-injective, flag-injective, clock-injective}
 use Rattle.sequencer_registers.proofs.registers.reset.Reads as reset

@@ -4,7 +4,7 @@ ghost use Rattle.machine.specs.Answers.{said, one, outcome, byteSaid, doneSaid,
 ghost use Rattle.machine.specs.Sequencer.{seqDataOf, withSeqData, divisorOf, clockOf};
 ghost use Rattle.machine.specs.Calls.{seqReset, seqClock, seqSetClockChangePending, seqPollClockChange, seqReadAddress, seqReadData, seqWriteAddress, seqWriteData};
 ghost use Rattle.machine.specs.Step.{sequencerStep};
-use record_judges::fits_seq;
+use refusals_records::fits_seq;
 use types::ByteAnswer;
 use types::ClockAnswer;
 use types::DoneAnswer;

@@ -8,8 +8,8 @@ use Rattle.bits.specs.Bit.{pick}
 use Rattle.types.specs.declared.answer.Refusal.the-variants.{Damaged, Range, Room}
 use Rattle.types.specs.declared.answer.DoneAnswer.{DoneAnswer}
 use Rattle.types.specs.declared.answer.DoneAnswer.the-variants.{Done, Refused}
-use Rattle.types.specs.declared.graphics.GraphicsController.{GraphicsController}
-use Rattle.types.specs.declared.sequencer.Sequencer.{Sequencer}
+use Rattle.types.specs.declared.gc.GraphicsController.{GraphicsController}
+use Rattle.types.specs.declared.seq.Sequencer.{Sequencer}
 use Rattle.machine.specs.Memory.{Memory}
 use Rattle.machine.specs.Answers.{refusalNumber, one, Said, said}
 use Rattle.machine.specs.Step.{State}

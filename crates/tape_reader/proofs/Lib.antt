@@ -1,2 +1,4 @@
+pub mod Texts
+pub mod Lining
 pub mod Runs
 pub mod Determined

@@ -23,7 +23,7 @@ use Rattle.tape_machine.specs.Text.{Put}
 use Rattle.tape_machine.specs.Lines.{lineOf}
 use Rattle.tape_machine.specs.Run.{upToStop, recordsAfter, recordsOf, operationNumber, faultSaid, recordLine, left, linesOf, ending, tapeRun, ranTo, playedOf}
 use Rattle.tape_records.proofs.Sizes.{record-fits}
-use Rattle.tape_lines.proofs.Texts.{sets-append, put-length}
+use Rattle.tape_reader.proofs.Texts.{sets-append, put-length}
 
 -- ---- the records from a place on
 

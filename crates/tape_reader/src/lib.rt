@@ -1,5 +1,7 @@
-// The tape: a whole tape run, from any state or from the program's start.
+// The tape: a whole tape run, from any state or from the program's start, its lines written as text.
+mod lines;
 mod program;
+mod text;
 mod whole;
 
 pub use program::run_from_start;

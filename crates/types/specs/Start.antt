@@ -1,10 +1,10 @@
 -- The start states, which the two `new` hand out.
 use mathlib.Core.List.{[], _∷_}
 use mathlib.Core.Bool.{false}
-use Rattle.types.specs.declared.graphics.GraphicsRegister.the-variants.{SetReset}
-use Rattle.types.specs.declared.graphics.GraphicsController.{GraphicsController}
-use Rattle.types.specs.declared.sequencer.SequencerRegister.the-variants.{Reset}
-use Rattle.types.specs.declared.sequencer.Sequencer.{Sequencer}
+use Rattle.types.specs.declared.gc.GraphicsRegister.the-variants.{SetReset}
+use Rattle.types.specs.declared.gc.GraphicsController.{GraphicsController}
+use Rattle.types.specs.declared.seq.SequencerRegister.the-variants.{Reset}
+use Rattle.types.specs.declared.seq.Sequencer.{Sequencer}
 
 -- the GC's start: all 0, latches and counters too
 abbrev pub freshGc : GraphicsController

@@ -12,11 +12,11 @@ use Rattle.machine.specs.Deeds.{byte, remade, laid, valueOf}
 use Rattle.machine.specs.Calls.{offsetNumber, planeNumber, unmasked, vramPlan}
 use Rattle.machine.specs.Step.{vramStep}
 use Rattle.machine.proofs.Laws.{perform-done, perform-refused, refusal-some, offset-accepted}
-use Rattle.memory_judges.proofs.Told.{as-told}
-use Rattle.planes.specs.declared.kind.PlaneStore.{PlaneStore}
-use Rattle.planes.specs.declared.kind.PlaneStore.the-variants.{Set, And, Or}
-use Rattle.planes.specs.Stores.{combines}
-use Rattle.planes.proofs.Stores.{store-one}
+use Rattle.refusals_memory.proofs.Told.{as-told}
+use Rattle.vram_planes.specs.declared.kind.PlaneStore.{PlaneStore}
+use Rattle.vram_planes.specs.declared.kind.PlaneStore.the-variants.{Set, And, Or}
+use Rattle.vram_planes.specs.Stores.{combines}
+use Rattle.vram_planes.proofs.Stores.{store-one}
 use Rattle.vram_reads.proofs.Laws.{plane-asked}
 use Rattle.vram.specs.Stores.{vramStoreCall}
 

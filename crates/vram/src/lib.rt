@@ -6,11 +6,11 @@ ghost use Rattle.machine.specs.Answers.{outcome, storeSaid, doneSaid};
 ghost use Rattle.machine.specs.Calls.{writeU8, deplane as remakes, planeSet, planeAnd, planeOr};
 ghost use Rattle.machine.specs.Step.{vramStep};
 ghost use Rattle.vram.specs.Stores.{vramStoreCall};
-use planes::PlaneStore;
 use types::DoneAnswer;
 use types::PlaneOffset;
 use types::Shape;
 use types::StoreAnswer;
+use vram_planes::PlaneStore;
 pub use vram_reads::peek_u8;
 pub use vram_reads::read_glyph;
 pub use vram_reads::read_linear;
@@ -51,11 +51,11 @@ pub fn deplane(
         p3: p3.len(),
         picture: picture.len(),
     };
-    match memory_judges::judge_offset(shape, offset) {
+    match refusals_memory::judge_offset(shape, offset) {
         DoneAnswer::Refused(x) => DoneAnswer::Refused(x),
         DoneAnswer::Done => {
             let at = offset.0;
-            pixels::inner::remake(p0, p1, p2, p3, picture, at);
+            vram_pixels::inner::remake(p0, p1, p2, p3, picture, at);
             DoneAnswer::Done
         }
     }
@@ -82,11 +82,11 @@ fn plane_store(
         p3: p3.len(),
         picture: picture.len(),
     };
-    match memory_judges::judge_plane(shape, plane, offset) {
+    match refusals_memory::judge_plane(shape, plane, offset) {
         DoneAnswer::Refused(x) => StoreAnswer::Refused(x),
         DoneAnswer::Done => {
             let at = offset.0;
-            planes::inner::store(p0, p1, p2, p3, picture, plane, at, kind, byte);
+            vram_planes::inner::store(p0, p1, p2, p3, picture, plane, at, kind, byte);
             StoreAnswer::Done
         }
     }

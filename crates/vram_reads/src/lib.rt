@@ -29,7 +29,7 @@ pub fn read_glyph(
         p3: p3.len(),
         picture: picture.len(),
     };
-    match memory_judges::judge_offset(shape, offset) {
+    match refusals_memory::judge_offset(shape, offset) {
         DoneAnswer::Refused(x) => ByteAnswer::Refused(x),
         DoneAnswer::Done => {
             let at = offset.0;
@@ -72,11 +72,11 @@ pub fn read_u8(
         p3: p3.len(),
         picture: picture.len(),
     };
-    match memory_judges::judge_plane(shape, plane, offset) {
+    match refusals_memory::judge_plane(shape, plane, offset) {
         DoneAnswer::Refused(x) => ByteAnswer::Refused(x),
         DoneAnswer::Done => {
             let at = offset.0;
-            ByteAnswer::Done(planes::inner::byte(p0, p1, p2, p3, picture, plane, at))
+            ByteAnswer::Done(vram_planes::inner::byte(p0, p1, p2, p3, picture, plane, at))
         }
     }
 }
@@ -99,7 +99,7 @@ pub fn read_linear(
         p3: p3.len(),
         picture: picture.len(),
     };
-    match memory_judges::judge_place(shape, place) {
+    match refusals_memory::judge_place(shape, place) {
         DoneAnswer::Refused(x) => ByteAnswer::Refused(x),
         DoneAnswer::Done => {
             let at = place.0;
@@ -127,14 +127,14 @@ pub fn serialize_linear<'a, 'b, 'c, 'd, 'p, 'n>(
         p3: p3.len(),
         picture: picture.len(),
     };
-    match memory_judges::judge_shown(shape, offset) {
+    match refusals_memory::judge_shown(shape, offset) {
         DoneAnswer::Refused(x) => {
             *number = fields::refusal_number(x);
             &picture[0..0]
         }
         DoneAnswer::Done => {
             *number = 0;
-            pixels::inner::eight(picture, offset)
+            vram_pixels::inner::eight(picture, offset)
         }
     }
 }

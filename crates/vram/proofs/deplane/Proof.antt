@@ -5,7 +5,7 @@ use Rattle.machine.proofs.Laws.{perform-done, perform-refused, refusal-some}
 use Rattle.machine.specs.Step.{vramStep}
 use Rattle.machine.specs.Calls.{vramPlan}
 use Rattle.machine.specs.Deeds.{memoryAfter, valueOf}
-use Rattle.memory_judges.proofs.Told.{as-told}
+use Rattle.refusals_memory.proofs.Told.{as-told}
 use Rattle.vram.proofs.Laws.{offset-asked}
 use Rattle.vram.proofs.deplane.Statement.{statement}
 use Rattle.vram.proofs.deplane.Tie as tie

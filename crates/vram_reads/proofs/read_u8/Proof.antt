@@ -6,7 +6,7 @@ use Rattle.machine.specs.Step.{vramStep}
 use Rattle.machine.specs.Calls.{vramPlan}
 use Rattle.machine.specs.Deeds.{memoryAfter, valueOf}
 use Rattle.machine.specs.Answers.{one}
-use Rattle.memory_judges.proofs.Told.{as-told}
+use Rattle.refusals_memory.proofs.Told.{as-told}
 use Rattle.vram_reads.proofs.Laws.{plane-asked}
 use Rattle.vram_reads.proofs.read_u8.Statement.{statement}
 use Rattle.vram_reads.proofs.read_u8.Tie as tie

@@ -1,6 +1,6 @@
 -- `cpu_read_u8` answers as the machine: refused by the judge's number, else from the latches that it loads, with one counter raised.
 use Rattle.graphics_controller.proofs.Accesses.{judged, located, unlocated, access-fits, read-refused, read-done}
-use Rattle.record_judges.proofs.Held.{map-select-fits}
+use Rattle.refusals_records.proofs.Held.{map-select-fits}
 use Rattle.machine.specs.Memory.{mem, shape}
 use Rattle.machine.proofs.Laws.{refusal-some, access-accepted}
 use Rattle.machine.specs.Address.{a0}

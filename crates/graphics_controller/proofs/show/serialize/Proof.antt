@@ -4,7 +4,7 @@ use mathlib.Core.Path.{_∙_}
 use borrow.Author.Needs.{needs}
 use Rattle.machine.proofs.Laws.{refusal-some}
 use Rattle.machine.specs.Memory.{mem}
-use Rattle.memory_judges.proofs.Told.{as-told}
+use Rattle.refusals_memory.proofs.Told.{as-told}
 use Rattle.graphics_controller.proofs.Accesses.{show-accepted, show-refused, show-done}
 use Rattle.graphics_controller.proofs.show.serialize.Statement.{statement}
 use Rattle.graphics_controller.proofs.show.serialize.Tie as tie

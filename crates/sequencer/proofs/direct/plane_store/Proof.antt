@@ -1,7 +1,7 @@
 -- `plane_store` judges and then stores: the machine's direct store of each kind, by `store-refused` and `store-done`.
 use borrow.Author.Needs.{needs}
 use Rattle.machine.specs.Memory.{mem}
-use Rattle.sequencer_reads.proofs.Laws.{accepted}
+use Rattle.refusals_access.proofs.DirectJudged.{accepted}
 use Rattle.sequencer.proofs.DirectLaws.{store-refused, store-done}
 use Rattle.sequencer.proofs.direct.plane_store.Statement.{statement}
 use Rattle.sequencer.proofs.direct.plane_store.Tie as tie

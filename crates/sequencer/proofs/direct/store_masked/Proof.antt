@@ -1,7 +1,7 @@
 -- `store_masked` stores where the mask has the plane, by `store-let`, and nothing where it does not, by `store-stopped`.
 use borrow.Author.Needs.{needs}
 use Rattle.machine.specs.Memory.{mem}
-use Rattle.plane_masks.proofs.Laws.{stored-at-lt, mask-has, mask-lacks}
+use Rattle.sequencer_masks.proofs.Laws.{stored-at-lt, mask-has, mask-lacks}
 use Rattle.sequencer.proofs.DirectLaws.{store-let, store-stopped}
 use Rattle.sequencer.proofs.direct.store_masked.Statement.{statement}
 use Rattle.sequencer.proofs.direct.store_masked.Tie as tie

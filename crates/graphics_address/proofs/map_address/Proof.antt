@@ -1,0 +1,31 @@
+-- `map_address` answers as the machine, whatever the memory: by `mapped-anywhere`.
+use Rattle.graphics_address.proofs.Anywhere.{mapped-anywhere}
+use borrow.Author.Needs.{needs}
+use Rattle.graphics_address.proofs.map_address.Statement.{statement}
+use Rattle.graphics_address.proofs.map_address.Tie as tie
+
+fits-gc-requires : tie.Need-fits-gc-requires
+fits-gc-requires c κs = search needs
+
+memory-map-requires : tie.Need-memory-map-requires
+memory-map-requires c κs = search needs
+
+chain-odd-even-requires : tie.Need-chain-odd-even-requires
+chain-odd-even-requires c κs = search needs
+
+judge-address-requires : tie.Need-judge-address-requires
+judge-address-requires c κs = search needs
+
+returns : tie.Need-returns
+returns c =
+    mapped-anywhere (c .before .before .before .before .before .args .gc) (c .before .before .before .before .before .args .address) (c .before .before .before .before .before .args .page) (c .judge-address .result) _ _ _ (c .before .before .before .fits-gc .ensures) (c .before .before .memory-map .ensures) (c .before .chain-odd-even .ensures) (c .judge-address .ensures)
+
+pub map-address-spec : {M : Type 1} → statement M
+map-address-spec =
+    tie.close
+    (tie.spec
+    fits-gc-requires
+    memory-map-requires
+    chain-odd-even-requires
+    judge-address-requires
+    returns)

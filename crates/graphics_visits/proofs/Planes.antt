@@ -1,0 +1,153 @@
+-- A write's planes: four tests as four bits, bytes laid plane by plane, and the deed of a write from them.
+use Prim.Native.Nat.{ℕ, zero, suc, _+_, _*_, _<_, min}
+use native.Mathlib.Omega.{arith}
+use native.Mathlib.Numerals.{add-one}
+use mathlib.Core.Path.{_≡_, refl, sym, ap, ap₂, _∙_}
+use mathlib.Core.Bool.{Bool, true, false, _&&_, _||_}
+use mathlib.Core.List.{List}
+use lib.Dec.{eqb, lit<}
+use lib.Bits.{bitAnd, and-lt}
+use lib.ListN.{set}
+use borrow.Author.Tests.{eqb-true}
+use Rattle.bits.specs.Bit.{bit, ofBits, isOne, bitOf, pick}
+use Rattle.bits.proofs.Laws.{test-lt, bit-of, of-lt, is-of}
+use Rattle.bits.proofs.Bitwise.{bit-and}
+use Rattle.types.specs.declared.gc.GraphicsRegisters.{GraphicsRegisters}
+use Rattle.types.specs.declared.gc.WriteMode.{WriteMode}
+use Rattle.types.specs.declared.gc.WriteMode.the-variants.{Mode0, Mode1, Mode2, Invalid}
+use Rattle.types.specs.declared.seq.Sequencer.{Sequencer}
+use Rattle.machine.specs.Memory.{Memory, plane}
+use Rattle.machine.specs.Sequencer.{storedAt}
+use Rattle.machine.specs.Deeds.{latch, any, laid, remade, stored, storedByte, memoryAfter}
+use Rattle.machine.specs.Calls.{writeDeed}
+use Rattle.machine.proofs.Laws.{below, laid-more, laid-skip}
+use Rattle.graphics_bytes.specs.PlaneBytes.{planeBytes, four}
+use Rattle.graphics_visits.specs.Writes.{stores, storesTo}
+
+-- ---- four tests as four bits
+
+is-one : (b : Bool) → isOne (bitOf b) ≡ b
+is-one true = refl
+is-one false = refl
+
+both-tests : (a b : Bool) → min (bitOf a) (bitOf b) ≡ bitOf (a && b)
+both-tests true true = refl
+both-tests true false = refl
+both-tests false b = omega arith
+
+-- bit p tells test p
+pub test-at : (f : ℕ → Bool) (p : ℕ) → p < 4 → isOne (bit p (ofBits 4 (λ q. bitOf (f q)))) ≡ f p
+test-at f p h = ap isOne (bit-of 4 (λ q. bitOf (f q)) (λ q. test-lt (f q)) p h) ∙ is-one (f p)
+
+-- the bits that two masks share are the tests that both pass
+pub tests-shared : (f g : ℕ → Bool) → bitAnd (ofBits 4 (λ p. bitOf (f p))) (ofBits 4 (λ p. bitOf (g p))) ≡ ofBits 4 (λ p. bitOf (f p && g p))
+tests-shared f g =
+    let hf : (p : ℕ) → bitOf (f p) < 2 = λ p. test-lt (f p) in
+    let hg : (p : ℕ) → bitOf (g p) < 2 = λ p. test-lt (g p) in
+    is-of 4 (and-lt 4 _ _ (of-lt 4 (λ p. bitOf (f p)) hf) (of-lt 4 (λ p. bitOf (g p)) hg))
+    (λ p h. bit-and p _ _ ∙ ap₂ min (bit-of 4 (λ p. bitOf (f p)) hf p h) (bit-of 4 (λ p. bitOf (g p)) hg p h) ∙ both-tests (f p) (g p))
+
+-- no bit: no test passes; a bit: some test does
+module _ (f : ℕ → Bool) where
+  pub none-passed : ofBits 4 (λ p. bitOf (f p)) ≡ 0 → any f ≡ false
+  unfolding ofBits
+  none-passed e = go (f 0) (f 1) (f 2) (f 3) e
+    where
+      go : (a b c d : Bool) → bitOf a + 2 * (bitOf b + 2 * (bitOf c + 2 * (bitOf d + 2 * 0))) ≡ 0 → (a || (b || (c || d))) ≡ false
+      go true b c d e = absurd (omega arith)
+      go false true c d e = absurd (omega arith)
+      go false false true d e = absurd (omega arith)
+      go false false false true e = absurd (omega arith)
+      go false false false false e = refl
+
+  pub some-passed : (ofBits 4 (λ p. bitOf (f p)) ≡ 0 → ⊥) → any f ≡ true
+  unfolding ofBits
+  some-passed n = go (f 0) (f 1) (f 2) (f 3) n
+    where
+      go : (a b c d : Bool) → (bitOf a + 2 * (bitOf b + 2 * (bitOf c + 2 * (bitOf d + 2 * 0))) ≡ 0 → ⊥) → (a || (b || (c || d))) ≡ true
+      go true b c d n = refl
+      go false true c d n = refl
+      go false false true d n = refl
+      go false false false true n = refl
+      go false false false false n = absurd (n refl)
+
+-- ---- bytes laid
+
+-- tests that agree, and bytes that agree where they pass, lay the same
+module _ (o : ℕ) (w w′ : ℕ → Bool) (b b′ : ℕ → ℕ) (m : Memory) (ew : (p : ℕ) → p < 4 → w p ≡ w′ p) (eb : (p : ℕ) → p < 4 → w p ≡ true → b p ≡ b′ p) where
+  at : (p : ℕ) → p < 4 → pick (w p) (set (plane m p) o (b p)) (plane m p) ≡ pick (w′ p) (set (plane m p) o (b′ p)) (plane m p)
+  at p h = go (w p) refl
+    where
+      go : (t : Bool) → w p ≡ t → pick (w p) (set (plane m p) o (b p)) (plane m p) ≡ pick (w′ p) (set (plane m p) o (b′ p)) (plane m p)
+      go true e = rw (← ew p h, e, eb p h e)
+      go false e = rw (← ew p h, e)
+
+  pub laid-alike : laid o w b m ≡ laid o w′ b′ m
+  unfolding laid
+  laid-alike =
+      let e0 = at 0 (lit< tt) in
+      let e1 = at 1 (lit< tt) in
+      let e2 = at 2 (lit< tt) in
+      let e3 = at 3 (lit< tt) in
+      cc
+
+-- one visit more
+pub turn : (o : ℕ) (w : ℕ → Bool) (b : ℕ → ℕ) (m₀ m : Memory) (k : ℕ) → k < 4 → m ≡ laid o (below k w) b m₀
+    → pick (w k) (laid o (λ q. eqb q k) (λ q. b k) m) m ≡ laid o (below (k + 1) w) b m₀
+turn o w b m₀ m k h e = rw (add-one k, e) (go (w k) refl)
+  where
+    go : (t : Bool) → w k ≡ t → pick t (laid o (λ q. eqb q k) (λ q. b k) (laid o (below k w) b m₀)) (laid o (below k w) b m₀) ≡ laid o (below (suc k) w) b m₀
+    go true eb =
+        laid-alike o (λ q. eqb q k) (λ q. eqb q k) (λ q. b k) b (laid o (below k w) b m₀) (λ p l. refl) (λ p l ep. ap b (sym (eqb-true p k ep)))
+        ∙ laid-more o w b m₀ k h eb
+    go false eb = laid-skip o w b m₀ k h eb
+
+-- ---- the deed of a write
+
+latch-four : (f : ℕ → ℕ) (p : ℕ) → p < 4 → latch (four f) p ≡ f p
+latch-four f zero h = refl
+latch-four f (suc zero) h = refl
+latch-four f (suc (suc zero)) h = refl
+latch-four f (suc (suc (suc zero))) h = refl
+latch-four f (suc (suc (suc (suc p)))) h = absurd (omega arith)
+
+module _ (w : WriteMode) (r : GraphicsRegisters) (s : Sequencer) (x o v : ℕ) (l : List ℕ) (m : Memory) where
+  -- nothing moves where no plane is stored
+  pub write-none : (q : ℕ) → q ≡ storesTo r s x o → q ≡ 0 → m ≡ memoryAfter (writeDeed w r s x o v) l m
+  unfolding memoryAfter writeDeed stored stores storesTo
+  write-none q e z = go w (none-passed (stores r s x o) (sym e ∙ z))
+    where
+      go : (w : WriteMode) → any (stores r s x o) ≡ false → m ≡ memoryAfter (writeDeed w r s x o v) l m
+      go Mode0 n = rw n
+      go Mode1 n = rw n
+      go Mode2 n = rw n
+      go Invalid n = refl
+
+  -- mode 3 only counts
+  pub write-counts : w ≡ Invalid → m ≡ memoryAfter (writeDeed w r s x o v) l m
+  unfolding memoryAfter writeDeed
+  write-counts e = rw e
+
+  -- in modes 0, 1 and 2 the bytes are laid, and the pixels remade once
+  stored-once : (w ≡ Invalid → ⊥) → any (stores r s x o) ≡ true
+      → remade (storedAt s o) (laid (storedAt s o) (stores r s x o) (planeBytes w r v l) m) ≡ memoryAfter (writeDeed w r s x o v) l m
+  unfolding memoryAfter writeDeed stored storedByte stores planeBytes
+  stored-once n e = go w n
+    where
+      go : (w : WriteMode) → (w ≡ Invalid → ⊥) → remade (storedAt s o) (laid (storedAt s o) (stores r s x o) (planeBytes w r v l) m) ≡ memoryAfter (writeDeed w r s x o v) l m
+      go Mode0 n = rw e
+      go Mode1 n = rw e
+      go Mode2 n = rw e
+      go Invalid n = absurd (n refl)
+
+  -- as the code stores them: by the bits of a mask, from an array of four
+  pub write-some : (q place : ℕ) (b : List ℕ) → (w ≡ Invalid → ⊥) → q ≡ storesTo r s x o → (q ≡ 0 → ⊥) → b ≡ four (planeBytes w r v l) → place ≡ storedAt s o
+      → remade place (laid place (λ p. isOne (bit p q)) (latch b) m) ≡ memoryAfter (writeDeed w r s x o v) l m
+  unfolding storesTo
+  write-some q place b n eq nz eb ep =
+      rw ep
+      (ap (remade (storedAt s o))
+      (laid-alike (storedAt s o) (λ p. isOne (bit p q)) (stores r s x o) (latch b) (planeBytes w r v l) m
+      (λ p h. rw eq (test-at (stores r s x o) p h))
+      (λ p h t. rw eb (latch-four (planeBytes w r v l) p h)))
+      ∙ stored-once n (some-passed (stores r s x o) (λ z. nz (eq ∙ z))))

@@ -1,0 +1,117 @@
+// A write's planes: which are stored, their bytes laid plane by plane, and the offset's eight pixels remade once.
+ghost use mathlib.Core.Path.{_≡_};
+ghost use mathlib.Core.Bool.{true};
+ghost use Prim.Native.Nat.{_<_, _≤_};
+ghost use lib.Dec.{eqb};
+ghost use lib.ListN.{length};
+ghost use Rattle.bits.specs.Bit.{bit, isOne, pick};
+ghost use Rattle.machine.specs.Memory.{lent, before, after, Shaped};
+ghost use Rattle.machine.specs.Graphics.{writeMode};
+ghost use Rattle.machine.specs.Sequencer.{fitsSeq};
+ghost use Rattle.machine.specs.Address.{a0 as bit0};
+ghost use Rattle.machine.specs.Deeds.{latch, laid, memoryAfter};
+ghost use Rattle.machine.specs.Calls.{writeDeed};
+ghost use Rattle.graphics_visits.specs.Writes.{storesTo};
+use graphics_bytes::plane_bytes;
+use graphics_paths::visited;
+use types::GraphicsController;
+use types::GraphicsRegisters;
+use types::Sequencer;
+use types::WriteMode;
+use vram_planes::PlaneStore;
+
+// The planes that are stored, as four bits: visited, and let through by the mask.
+fn stored_planes(
+    registers: GraphicsRegisters,
+    seq: Sequencer,
+    at: usize,
+    a0: bool,
+    address: usize,
+) -> u8
+    requires { ⌜ (fitsSeq seq ≡ true) × (a0 ≡ bit0 address) ⌝ }
+    ensures { λ r. ⌜ r ≡ storesTo registers seq address at ⌝ }
+{
+    visited(registers, address) & sequencer_masks::inner::mask(seq, at, a0)
+}
+
+// One plane's visit: its byte laid where it is stored, and no pixel moved.
+fn visit_plane(
+    p0: &mut [u8],
+    p1: &mut [u8],
+    p2: &mut [u8],
+    p3: &mut [u8],
+    picture: &[u8],
+    planes: u8,
+    bytes: [u8; 4],
+    plane: usize,
+    at: usize,
+)
+    requires { ⌜ Shaped (lent p0 p1 p2 p3 picture) × ((at < length (now p0)) × (plane ≤ 3)) ⌝ }
+    ensures { λ _. ⌜ after p0 p1 p2 p3 picture ≡ pick (isOne (bit plane planes)) (laid at (λ q. eqb q plane) (λ q. latch bytes plane) (before p0 p1 p2 p3 picture)) (before p0 p1 p2 p3 picture) ⌝ }
+{
+    if planes & (1 << plane) != 0 {
+        vram_planes::inner::lay(
+            p0,
+            p1,
+            p2,
+            p3,
+            picture,
+            plane,
+            at,
+            PlaneStore::Set,
+            bytes[plane],
+        );
+    }
+}
+
+// The four planes visited in turn.
+fn visit(
+    p0: &mut [u8],
+    p1: &mut [u8],
+    p2: &mut [u8],
+    p3: &mut [u8],
+    picture: &[u8],
+    planes: u8,
+    bytes: [u8; 4],
+    at: usize,
+)
+    requires { ⌜ Shaped (lent p0 p1 p2 p3 picture) × (at < length (now p0)) ⌝ }
+    ensures { λ _. ⌜ after p0 p1 p2 p3 picture ≡ laid at (λ p. isOne (bit p planes)) (latch bytes) (before p0 p1 p2 p3 picture) ⌝ }
+{
+    for plane in 0..4usize {
+        visit_plane(p0, p1, p2, p3, picture, planes, bytes, plane, at);
+    }
+}
+
+// What a write does to the memory. Where no plane is stored, no pixel is remade; mode 3 only counts.
+pub fn write_planes(
+    gc: GraphicsController,
+    seq: Sequencer,
+    p0: &mut [u8],
+    p1: &mut [u8],
+    p2: &mut [u8],
+    p3: &mut [u8],
+    picture: &mut [u8],
+    at: usize,
+    a0: bool,
+    address: usize,
+    byte: u8,
+)
+    requires { ⌜ Shaped (lent p0 p1 p2 p3 picture) × ((at < length (now p0)) × ((fitsSeq seq ≡ true) × (a0 ≡ bit0 address))) ⌝ }
+    ensures { λ _. ⌜ after p0 p1 p2 p3 picture ≡ memoryAfter (writeDeed (writeMode (gc .registers)) (gc .registers) seq address at byte) (gc .latches) (before p0 p1 p2 p3 picture) ⌝ }
+{
+    let registers = gc.registers;
+    let mode = fields::gc::write_mode(registers);
+    if let WriteMode::Invalid = mode {
+        return;
+    }
+    let planes = stored_planes(registers, seq, at, a0, address);
+    if planes == 0 {
+        return;
+    }
+    let latches = gc.latches;
+    let bytes = plane_bytes(mode, registers, latches, byte);
+    let place = sequencer_masks::inner::stored_at(seq, at);
+    visit(p0, p1, p2, p3, picture, planes, bytes, place);
+    vram_pixels::inner::remake(p0, p1, p2, p3, picture, place);
+}

@@ -1,0 +1,36 @@
+-- `mapped_128k` takes bit 16, or bit 14, to bit 0 under chain odd/even: from `with_bit0`.
+use Prim.Native.Nat.{_/_}
+use mathlib.Core.Path.{_∙_}
+use lib.Bits.{and-le-r}
+use borrow.Author.Tests.{lt-ltb, le-ltb, not-true, not-false}
+use Rattle.bits.proofs.Bitwise.{shr-and-one}
+use Rattle.machine.specs.Address.{mapped}
+use Rattle.refusals_access.proofs.address.mapped_128k.Statement.{statement}
+use Rattle.refusals_access.proofs.address.mapped_128k.Tie as tie
+
+returns : tie.Need-returns
+unfolding mapped
+returns c =
+    simp (not-true (c .before .args .chain) (c .if1 .taken))
+
+with-bit0-requires : tie.Need-with-bit0-requires
+with-bit0-requires c κs =
+    and-le-r (c .before .before .args .address / 65536) 1
+
+returns-2 : tie.Need-returns-2
+unfolding mapped
+returns-2 c =
+    c .with-bit0 .ensures ∙ simp (not-false (c .before .before .before .args .chain) (c .before .before .if1 .left), lt-ltb _ _ (c .before .if2 .taken), shr-and-one (c .before .before .before .args .address) 16)
+
+with-bit0-requires-2 : tie.Need-with-bit0-requires-2
+with-bit0-requires-2 c κs =
+    and-le-r (c .before .before .args .address / 16384) 1
+
+returns-3 : tie.Need-returns-3
+unfolding mapped
+returns-3 c =
+    c .with-bit02 .ensures ∙ simp (not-false (c .before .before .before .args .chain) (c .before .before .if1 .left), le-ltb _ _ (c .before .if2 .left), shr-and-one (c .before .before .before .args .address) 14)
+
+pub mapped-128k-spec : {M : Type 1} → statement M
+mapped-128k-spec =
+    tie.close (tie.spec returns with-bit0-requires returns-2 with-bit0-requires-2 returns-3)

@@ -1,0 +1,15 @@
+-- `within` tests an address against a window's ends, both included: from its two tests.
+use borrow.Author.Tests.{le-leb, lt-leb}
+use Rattle.refusals_access.proofs.address.within.Statement.{statement}
+use Rattle.refusals_access.proofs.address.within.Tie as tie
+
+returns : tie.Need-returns
+returns c =
+    simp (lt-leb _ _ (c .if1 .taken))
+
+returns-2 : tie.Need-returns-2
+returns-2 c =
+    simp (le-leb _ _ (c .if1 .left))
+
+pub within-spec : {M : Type 1} → statement M
+within-spec = tie.close (tie.spec returns returns-2)

@@ -1,0 +1,17 @@
+-- `fits_gc` is refusal 6's test: the registers of four bits together, and the map select, by `fits-together`.
+use borrow.Author.Tests.{le-leb, lt-leb}
+use Rattle.refusals_records.proofs.Held.{fits-together}
+use Rattle.refusals_records.proofs.fits_gc.Statement.{statement}
+use Rattle.refusals_records.proofs.fits_gc.Tie as tie
+
+returns : tie.Need-returns
+returns c = rw (← fits-together (c .before .before .before .before .before .args .registers), lt-leb _ 15 (c .if1 .taken))
+
+returns-2 : tie.Need-returns-2
+returns-2 c = rw (← fits-together (c .before .before .before .before .before .before .before .args .registers), le-leb _ 15 (c .before .before .if1 .left), lt-leb _ 3 (c .if2 .taken))
+
+returns-3 : tie.Need-returns-3
+returns-3 c = rw (← fits-together (c .before .before .before .before .before .before .before .args .registers), le-leb _ 15 (c .before .before .if1 .left), le-leb _ 3 (c .if2 .left))
+
+pub fits-gc-spec : {M : Type 1} → statement M
+fits-gc-spec = tie.close (tie.spec returns returns-2 returns-3)
