@@ -4,7 +4,7 @@ use mathlib.Core.Path.{sym, _∙_}
 use lib.Bits.{and-le-r}
 use borrow.Author.Needs.{needs}
 use Rattle.machine.specs.DataPath.{selectedPlane}
-use Rattle.refusals_access.proofs.Windows.{bit0-replaced, bit0-of}
+use Rattle.fields.proofs.Bit0.{bit0-replaced, bit0-of}
 use Rattle.graphics_paths.proofs.select.selected_plane.Statement.{statement}
 use Rattle.graphics_paths.proofs.select.selected_plane.Tie as tie
 

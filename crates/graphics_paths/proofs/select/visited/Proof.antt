@@ -4,7 +4,7 @@ use borrow.Author.Tests.{eq-eqb, ne-eqb}
 use borrow.Author.Needs.{needs}
 use Rattle.bits.specs.Bit.{ofBits}
 use Rattle.machine.specs.DataPath.{visits}
-use Rattle.refusals_access.proofs.Windows.{bit0-is}
+use Rattle.fields.proofs.Bit0.{bit0-is}
 use Rattle.graphics_paths.proofs.select.visited.Statement.{statement}
 use Rattle.graphics_paths.proofs.select.visited.Tie as tie
 

@@ -3,7 +3,7 @@ use Prim.Native.Nat.{ℕ, _%_}
 use native.Mathlib.Omega.{arith}
 use lib.Bits.{bitAnd, and-mask}
 use Rattle.machine.specs.Address.{mapped}
-use Rattle.refusals_access.proofs.Windows.{bit0-is}
+use Rattle.fields.proofs.Bit0.{bit0-is}
 use borrow.Author.Tests.{lt-ltb, le-ltb, not-true, not-false}
 use mathlib.Core.Path.{_≡_, sym, ap, _∙_}
 use borrow.Author.Needs.{needs}

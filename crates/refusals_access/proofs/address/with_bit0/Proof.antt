@@ -1,5 +1,5 @@
 -- `with_bit0` replaces bit 0: from the law of the two masks.
-use Rattle.refusals_access.proofs.Windows.{bit0-replaced}
+use Rattle.fields.proofs.Bit0.{bit0-replaced}
 use Rattle.refusals_access.proofs.address.with_bit0.Statement.{statement}
 use Rattle.refusals_access.proofs.address.with_bit0.Tie as tie
 
