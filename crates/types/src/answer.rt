@@ -1,10 +1,10 @@
 // What the calls answer. machine's specs/Answers.antt gives each answer's number and value.
-use crate::graphics::GraphicsController;
-use crate::graphics::MemoryMap;
-use crate::graphics::OddEvenModeComplement;
-use crate::graphics::ShiftMode;
+use crate::gc::GraphicsController;
+use crate::gc::MemoryMap;
+use crate::gc::OddEvenModeComplement;
+use crate::gc::ShiftMode;
 use crate::place::PlaneOffset;
-use crate::sequencer::Sequencer;
+use crate::seq::Sequencer;
 
 // The refusals, in the order of their numbers, 1 to 10.
 pub enum Refusal {
