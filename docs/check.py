@@ -4,14 +4,15 @@ Names: in PROMISES.md, DECISIONS.md, CHANGING.md and both READMEs each word in b
 of a tape's text, script or path of the tree, or stands in EXCEPTIONS. `a::b` is looked up part by part, `a_..` as the start of a name, `_b` as the end of one, and
 a word of capitals (`NAME-determined`) stands for anything. Where a page says in which crate or file a name stands, it must stand there:
 
-    machine's `step`      judges' must-fail `refuses_all`      visits: `stores_nothing`      an edit, or a definition, of that crate
-    must-fail `read_of_0`, `write_of_0`                        edits of any crate
-    Calls: `vramPlan`, `unmasked`      Claims `InWindow`       definitions of a file Calls.antt, Claims.antt
+    machine's `step`      fields' must-fail `map_from_bit_1`      graphics_visits: `stores_nothing`      an edit, or a definition, of that crate
+    must-fail `read_of_0`, `write_of_0`                           edits of any crate
+    Calls: `vramPlan`, `unmasked`      Claims `InWindow`          definitions of a file Calls.antt, Claims.antt
 
 A column of a table that is headed Old or Was has names that went, and is passed over.
 Paths: in every page each word that starts with a folder of the tree, and each name of a file by its ending, with or without backticks; a word of capitals stands for any.
-Numbers: COUNTS has, for each, the sentence of the page and how it is counted. COST.md's two tables agree, README.md's drawing has every crate, PROMISES.md's table of functions
-with a `requires` has every one that another crate can name, and its table of the harness every crate whose public functions have no contract. No two definitions of specs/ share a name.
+Numbers: COUNTS has, for each, the sentence of the page and how it is counted. COST.md's two tables agree, README.md's drawing has every crate, below those that it uses, PROMISES.md's table of
+functions with a `requires` has every one that another crate can name, and its table of the harness every crate whose public functions have no contract. No two definitions of specs/ share a name,
+and no module has the name of a crate.
 """
 import glob
 import os
@@ -26,7 +27,7 @@ ENDINGS = "md antt rt rs c h py txt list lines tape edit out".split()
 # Words in backticks that are no names of this tree, each kind with its reason.
 EXCEPTIONS = {
     # words of the languages, and of the kit
-    "requires", "ensures", "bool", "usize", "&mut", "getD", "Option", "rt", "types.Kit", "Bool", "|", "#",
+    "requires", "ensures", "bool", "usize", "&mut", "getD", "Option", "rt", "types.Kit", "Bool", "|", "#", "libc", "let", "abbrev",
     # programs that scripts build, the fields of a must-fail edit, and an option
     "test", "oracle", "file:", "old:", "new:", "--help",
     # MartyPC's names for what document 01 leaves out, or gives another shape
@@ -84,7 +85,8 @@ def definitions(files):
 files = tree()
 bases = {os.path.basename(path) for path in files}
 defined = definitions(files)
-crates = [line.split(":")[0] for line in read("crates.txt").splitlines() if re.match(r"\w+:", line)]
+uses = {name: used.split() for name, used in re.findall(r"^(\w+):(.*)$", read("crates.txt"), re.M)}
+crates = list(uses)
 edits = {}
 for path in glob.glob("crates/*/must-fail/*.edit"):
     edits.setdefault(os.path.basename(path)[:-5], set()).add(path.split("/")[1])
@@ -156,6 +158,8 @@ def check_names(page, line, text):
     for crate, must_fail, listed in re.findall(rf"(?:\b(?=\w+')|(?<=[|;] )(?=\w+:))(\w+)(?:'s?|:) (must-fail )?({LIST})", text):
         if crate in crates:
             in_crate(page, line, crate, must_fail, listed)
+        elif all(name in edits for name in words(listed)):
+            tell(page, line, f"{crate} is said to have {listed}, and is no crate")
     for owner in re.findall(r"(?<![\w`/.-])([a-z]+(?:_[a-z0-9]+)+)'", text):
         if owner not in names:
             tell(page, line, f"{owner} is said to have something, and is no crate and no name of the tree")
@@ -229,9 +233,15 @@ def all_edits():
     return len(glob.glob("crates/*/must-fail/*.edit"))
 
 
+def needed(name):
+    """A crate and all that it uses, the kit's own crates left out."""
+    return {name}.union(*map(needed, uses[name])) if name in uses else set()
+
+
 COUNTS = [
     ("README.md", r"There are (\d+) crates to prove", lambda: len(crates)),
     ("README.md", r"crates to prove and (\d+) wrong edits to try", all_edits),
+    ("README.md", r'told as "crate \d+ of (\d+)"', lambda: len(needed("tape"))),
     ("README.md", r"before the (\d+) lines of proof", lambda: len(read("crates/machine/proofs/Isolation.antt").splitlines())),
     ("README.md", r"on the (\d+) bytes of that tape", lambda: os.path.getsize("tape/examples/document-01.tape")),
     ("host/README.md", r"Each of the (\d+) functions", exported),
@@ -353,11 +363,26 @@ def public(path):
 
 
 def check_crates():
-    """Every crate stands in README's drawing."""
-    part = read("README.md").split("## The crates")[1].split("\n## ")[0]
-    for crate in crates:
-        if not re.search(rf"\b{crate}\b", part):
-            tell("README.md", line_of(read("README.md"), read("README.md").index("## The crates")), f"the crate {crate} of crates.txt is not in the drawing")
+    """Every crate has a line in README's drawing, below those that it uses."""
+    text = read("README.md")
+    start = text.index("## The crates")
+    drawn = re.findall(r"^    [ |+-]*(\w+)", text[start:].split("\n## ")[0], re.M)
+    for crate in sorted(set(crates) ^ set(drawn)):
+        tell("README.md", line_of(text, start), f"the crate {crate} is " + ("not in the drawing" if crate in crates else "drawn, and is not in crates.txt"))
+    for at, crate in enumerate(drawn):
+        for used in sorted(set(uses.get(crate, [])) & set(drawn[at:])):
+            tell("README.md", line_of(text, start), f"the crate {crate} uses {used}, which is drawn below it")
+
+
+def check_modules():
+    """No module has the name of a crate, the kit's own included: `rt try` refuses a program that reaches both."""
+    taken = set(crates).union(*uses.values())
+    for path in sorted(files):
+        if not re.match(r"crates/\w+/src/.*\.rt$", path):
+            continue
+        for match in re.finditer(r"^[ \t]*(?:pub )?mod (\w+)\s*[;{]", read(path), re.M):
+            if match[1] in taken:
+                tell(path, line_of(read(path), match.start()), f"the module {match[1]} has the name of a crate")
 
 
 def main():
@@ -376,6 +401,7 @@ def main():
     check_harness()
     check_twice()
     check_crates()
+    check_modules()
     for text in wrong:
         print(text)
     print(f"pages: {len(PAGES)} held to the tree, " + (f"{len(wrong)} wrong" if wrong else f"{len(names)} names known, {len(COUNTS)} numbers counted"))
