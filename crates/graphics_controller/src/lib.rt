@@ -1,4 +1,4 @@
-// The graphics controller: the processor's accesses and the show, and what has no memory: its registers (`graphics_registers`) and `map_address` (`address_map`).
+// The graphics controller: the processor's accesses and the show, and what has no memory: its registers (`graphics_registers`) and `map_address` (`graphics_address`).
 mod access;
 mod show;
 

@@ -1,4 +1,4 @@
--- `judge_direct` gives 6 where the record does not fit, else what vram's judge gives.
+-- `judge_direct` gives 6 where the record does not fit, else what `judge_plane` gives.
 use mathlib.Core.Path.{sym, _∙_}
 use borrow.Author.Tests.{not-true, not-false}
 use borrow.Author.Needs.{needs}
