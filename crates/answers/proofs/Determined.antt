@@ -1,12 +1,8 @@
 -- Any two outcomes that a function's contract permits for one input coincide. `Post` is each contract's own reading.
-use mathlib.Core.Path.{_≡_, sym, _∙_}
+use mathlib.Core.Path.{sym, _∙_}
 use contract.Lifetimes.{Lfts}
-use denote.Triple.Clauses.{AtExit}
-use borrow.Fn.Kinds.{Dens, endedOf}
-use Rattle.answers.specs.declared.narrow.Answer.{Answer}
-use Rattle.answers.specs.declared.wide.Clock.{Clock}
-use Rattle.answers.specs.declared.wide.Mapped.{Mapped}
-use Rattle.answers.specs.declared.wide.Shown.{Shown}
+use borrow.Fn.Kinds.{Dens}
+use Rattle.types.proofs.OneAnswer.{OneAnswer}
 use Rattle.answers.proofs.Told.{answer-is, pixel-is, clock-is, mapped-is}
 use Rattle.answers.proofs.narrow.given.Reads as given
 use Rattle.answers.proofs.narrow.given.Kinds as given-kinds
@@ -44,69 +40,69 @@ use Rattle.answers.proofs.wide.of_part.Kinds as of-part-kinds
 -- ---- a byte
 
 module _ (κs : Lfts 0) (a : Dens κs given-kinds.ps) where
-  pub given-determined : (r r′ : Answer) (e e′ : AtExit (endedOf 0 given-kinds.ps given-kinds.r) κs) → given.Post κs a r e → given.Post κs a r′ e′ → r ≡ r′
+  pub given-determined : OneAnswer (given.Post κs a)
   given-determined r r′ e e′ p q = p ∙ sym q
 
 module _ (κs : Lfts 0) (a : Dens κs done-kinds.ps) where
-  pub done-determined : (r r′ : Answer) (e e′ : AtExit (endedOf 0 done-kinds.ps done-kinds.r) κs) → done.Post κs a r e → done.Post κs a r′ e′ → r ≡ r′
+  pub done-determined : OneAnswer (done.Post κs a)
   done-determined r r′ e e′ p q = p ∙ sym q
 
 module _ (κs : Lfts 0) (a : Dens κs unknown-kinds.ps) where
-  pub unknown-determined : (r r′ : Answer) (e e′ : AtExit (endedOf 0 unknown-kinds.ps unknown-kinds.r) κs) → unknown.Post κs a r e → unknown.Post κs a r′ e′ → r ≡ r′
+  pub unknown-determined : OneAnswer (unknown.Post κs a)
   unknown-determined r r′ e e′ p q = p ∙ sym q
 
 module _ (κs : Lfts 0) (a : Dens κs refused-kinds.ps) where
-  pub refused-determined : (r r′ : Answer) (e e′ : AtExit (endedOf 0 refused-kinds.ps refused-kinds.r) κs) → refused.Post κs a r e → refused.Post κs a r′ e′ → r ≡ r′
+  pub refused-determined : OneAnswer (refused.Post κs a)
   refused-determined r r′ e e′ p q = p ∙ sym q
 
 module _ (κs : Lfts 0) (a : Dens κs of-byte-kinds.ps) where
-  pub of-byte-determined : (r r′ : Answer) (e e′ : AtExit (endedOf 0 of-byte-kinds.ps of-byte-kinds.r) κs) → of-byte.Post κs a r e → of-byte.Post κs a r′ e′ → r ≡ r′
+  pub of-byte-determined : OneAnswer (of-byte.Post κs a)
   of-byte-determined r r′ e e′ p q = answer-is r r′ (p ∙ sym q)
 
 module _ (κs : Lfts 0) (a : Dens κs of-store-kinds.ps) where
-  pub of-store-determined : (r r′ : Answer) (e e′ : AtExit (endedOf 0 of-store-kinds.ps of-store-kinds.r) κs) → of-store.Post κs a r e → of-store.Post κs a r′ e′ → r ≡ r′
+  pub of-store-determined : OneAnswer (of-store.Post κs a)
   of-store-determined r r′ e e′ p q = answer-is r r′ (p ∙ sym q)
 
 module _ (κs : Lfts 0) (a : Dens κs of-done-kinds.ps) where
-  pub of-done-determined : (r r′ : Answer) (e e′ : AtExit (endedOf 0 of-done-kinds.ps of-done-kinds.r) κs) → of-done.Post κs a r e → of-done.Post κs a r′ e′ → r ≡ r′
+  pub of-done-determined : OneAnswer (of-done.Post κs a)
   of-done-determined r r′ e e′ p q = answer-is r r′ (p ∙ sym q)
 
 module _ (κs : Lfts 0) (a : Dens κs of-flag-kinds.ps) where
-  pub of-flag-determined : (r r′ : Answer) (e e′ : AtExit (endedOf 0 of-flag-kinds.ps of-flag-kinds.r) κs) → of-flag.Post κs a r e → of-flag.Post κs a r′ e′ → r ≡ r′
+  pub of-flag-determined : OneAnswer (of-flag.Post κs a)
   of-flag-determined r r′ e e′ p q = answer-is r r′ (p ∙ sym q)
 
 module _ (κs : Lfts 0) (a : Dens κs of-pixel-kinds.ps) where
-  pub of-pixel-determined : (r r′ : Answer) (e e′ : AtExit (endedOf 0 of-pixel-kinds.ps of-pixel-kinds.r) κs) → of-pixel.Post κs a r e → of-pixel.Post κs a r′ e′ → r ≡ r′
+  pub of-pixel-determined : OneAnswer (of-pixel.Post κs a)
   of-pixel-determined r r′ e e′ p q = pixel-is r r′ (p ∙ sym q)
 
 -- ---- a place in an order
 
 module _ (κs : Lfts 0) (a : Dens κs of-map-kinds.ps) where
-  pub of-map-determined : (r r′ : Answer) (e e′ : AtExit (endedOf 0 of-map-kinds.ps of-map-kinds.r) κs) → of-map.Post κs a r e → of-map.Post κs a r′ e′ → r ≡ r′
+  pub of-map-determined : OneAnswer (of-map.Post κs a)
   of-map-determined r r′ e e′ p q = answer-is r r′ (p ∙ sym q)
 
 module _ (κs : Lfts 0) (a : Dens κs of-odd-even-kinds.ps) where
-  pub of-odd-even-determined : (r r′ : Answer) (e e′ : AtExit (endedOf 0 of-odd-even-kinds.ps of-odd-even-kinds.r) κs) → of-odd-even.Post κs a r e → of-odd-even.Post κs a r′ e′ → r ≡ r′
+  pub of-odd-even-determined : OneAnswer (of-odd-even.Post κs a)
   of-odd-even-determined r r′ e e′ p q = answer-is r r′ (p ∙ sym q)
 
 module _ (κs : Lfts 0) (a : Dens κs of-shift-kinds.ps) where
-  pub of-shift-determined : (r r′ : Answer) (e e′ : AtExit (endedOf 0 of-shift-kinds.ps of-shift-kinds.r) κs) → of-shift.Post κs a r e → of-shift.Post κs a r′ e′ → r ≡ r′
+  pub of-shift-determined : OneAnswer (of-shift.Post κs a)
   of-shift-determined r r′ e e′ p q = answer-is r r′ (p ∙ sym q)
 
 -- ---- wider than a byte
 
 module _ (κs : Lfts 0) (a : Dens κs of-clock-kinds.ps) where
-  pub of-clock-determined : (r r′ : Clock) (e e′ : AtExit (endedOf 0 of-clock-kinds.ps of-clock-kinds.r) κs) → of-clock.Post κs a r e → of-clock.Post κs a r′ e′ → r ≡ r′
+  pub of-clock-determined : OneAnswer (of-clock.Post κs a)
   of-clock-determined r r′ e e′ p q = clock-is r r′ (p ∙ sym q)
 
 module _ (κs : Lfts 0) (a : Dens κs of-mapped-kinds.ps) where
-  pub of-mapped-determined : (r r′ : Mapped) (e e′ : AtExit (endedOf 0 of-mapped-kinds.ps of-mapped-kinds.r) κs) → of-mapped.Post κs a r e → of-mapped.Post κs a r′ e′ → r ≡ r′
+  pub of-mapped-determined : OneAnswer (of-mapped.Post κs a)
   of-mapped-determined r r′ e e′ p q = mapped-is r r′ (p ∙ sym q)
 
 module _ (κs : Lfts 0) (a : Dens κs unknown-shown-kinds.ps) where
-  pub unknown-shown-determined : (r r′ : Shown) (e e′ : AtExit (endedOf 0 unknown-shown-kinds.ps unknown-shown-kinds.r) κs) → unknown-shown.Post κs a r e → unknown-shown.Post κs a r′ e′ → r ≡ r′
+  pub unknown-shown-determined : OneAnswer (unknown-shown.Post κs a)
   unknown-shown-determined r r′ e e′ p q = p ∙ sym q
 
 module _ (κs : Lfts 1) (a : Dens κs of-part-kinds.ps) where
-  pub of-part-determined : (r r′ : Shown) (e e′ : AtExit (endedOf 1 of-part-kinds.ps of-part-kinds.r) κs) → of-part.Post κs a r e → of-part.Post κs a r′ e′ → r ≡ r′
+  pub of-part-determined : OneAnswer (of-part.Post κs a)
   of-part-determined r r′ e e′ p q = p ∙ sym q

@@ -16,6 +16,7 @@ use Rattle.machine.specs.Memory.{Memory, lent}
 use Rattle.machine.specs.Answers.{Said, Outcome, outcome, byteSaid, storeSaid}
 use Rattle.machine.specs.Step.{Device, device}
 use Rattle.machine.proofs.Injective.{answer-of, next-of, pixels-of, byte-injective, store-injective}
+use Rattle.types.proofs.OneAnswer.{OneAnswer, OneOutcome}
 use Rattle.graphics_controller.proofs.access.cpu_read_u8.Reads as cpu-read-u8
 use Rattle.graphics_controller.proofs.access.cpu_read_u8.Kinds as cpu-read-u8-kinds
 use Rattle.graphics_controller.proofs.access.cpu_peek_u8.Reads as cpu-peek-u8
@@ -35,11 +36,11 @@ write-of : {m n : Memory} {o : Outcome Device} (r r′ : CpuStore) → outcome (
 write-of r r′ p q = ap₂ (λ (a : StoreAnswer) (g : GraphicsController). record { answer = a; gc = g }) (store-injective (r .answer) (r′ .answer) (answer-of p q)) (gc-of p q)
 
 module _ (κs : Lfts 5) (a : Dens κs cpu-read-u8-kinds.ps) where
-  pub cpu-read-u8-determined : (r r′ : CpuByte) (e e′ : AtExit (endedOf 5 cpu-read-u8-kinds.ps cpu-read-u8-kinds.r) κs) → cpu-read-u8.Post κs a r e → cpu-read-u8.Post κs a r′ e′ → r ≡ r′
+  pub cpu-read-u8-determined : OneAnswer (cpu-read-u8.Post κs a)
   cpu-read-u8-determined r r′ e e′ p q = read-of r r′ p q
 
 module _ (κs : Lfts 5) (a : Dens κs cpu-peek-u8-kinds.ps) where
-  pub cpu-peek-u8-determined : (r r′ : ByteAnswer) (e e′ : AtExit (endedOf 5 cpu-peek-u8-kinds.ps cpu-peek-u8-kinds.r) κs) → cpu-peek-u8.Post κs a r e → cpu-peek-u8.Post κs a r′ e′ → r ≡ r′
+  pub cpu-peek-u8-determined : OneAnswer (cpu-peek-u8.Post κs a)
   cpu-peek-u8-determined r r′ e e′ p q = byte-injective r r′ (answer-of p q)
 
 module _ (κs : Lfts 5) (a : Dens κs cpu-write-u8-kinds.ps) where
@@ -49,7 +50,7 @@ module _ (κs : Lfts 5) (a : Dens κs cpu-write-u8-kinds.ps) where
   abbrev left : Written → Memory
   left e = lent (e .1 .1 .0) (e .1 .1 .1 .0) (e .1 .1 .1 .1 .0) (e .1 .1 .1 .1 .1 .0) (e .1 .1 .1 .1 .1 .1 .0)
 
-  pub cpu-write-u8-determined : (r r′ : CpuStore) (e e′ : Written) → cpu-write-u8.Post κs a r e → cpu-write-u8.Post κs a r′ e′ → (r ≡ r′) × (left e ≡ left e′)
+  pub cpu-write-u8-determined : OneOutcome (cpu-write-u8.Post κs a) left
   cpu-write-u8-determined r r′ e e′ p q = (write-of r r′ p q, ap (λ (d : Device). d .memory) (next-of p q))
 
 module _ (κs : Lfts 6) (a : Dens κs serialize-kinds.ps) where

@@ -3,17 +3,17 @@ use mathlib.Core.Path.{_≡_, ap, ap₂}
 use contract.Lifetimes.{Lfts}
 use denote.Triple.Clauses.{AtExit}
 use borrow.Fn.Kinds.{Dens, endedOf}
-use Rattle.machine.specs.Memory.{Memory, lent}
+use Rattle.machine.specs.Memory.{lent}
 use Rattle.machine.specs.Answers.{Said, Outcome, outcome}
 use Rattle.machine.proofs.Injective.{answer-of, next-of}
 use Rattle.answers.specs.declared.narrow.Answer.{Answer}
 use Rattle.answers.proofs.Told.{answer-is}
 use Rattle.host_records.specs.declared.record.ControllerRecord.{ControllerRecord}
 use Rattle.host_records.specs.declared.record.StatsRecord.{StatsRecord}
-use Rattle.host_records.specs.declared.left.ControllerAnswer.{ControllerAnswer}
 use Rattle.host_records.specs.declared.left.StatsAnswer.{StatsAnswer}
 use Rattle.host_records.proofs.Told.{controller-answer-is}
 use Rattle.host_calls.specs.Hosted.{Held}
+use Rattle.types.proofs.OneAnswer.{OneAnswer, OneOutcome}
 use Rattle.host_calls.proofs.reset_of.Reads as reset-of
 use Rattle.host_calls.proofs.reset_of.Kinds as reset-of-kinds
 use Rattle.host_calls.proofs.address_of.Reads as address-of
@@ -32,25 +32,24 @@ gc-of p q = ap (λ (h : Held). h .gc) (next-of p q)
 -- ---- the controller's record
 
 module _ (κs : Lfts 0) (a : Dens κs reset-of-kinds.ps) where
-  pub reset-of-determined : (r r′ : ControllerAnswer) (e e′ : AtExit (endedOf 0 reset-of-kinds.ps reset-of-kinds.r) κs) → reset-of.Post κs a r e → reset-of.Post κs a r′ e′ → r ≡ r′
+  pub reset-of-determined : OneAnswer (reset-of.Post κs a)
   reset-of-determined r r′ e e′ p q = controller-answer-is r r′ p q
 
 module _ (κs : Lfts 0) (a : Dens κs address-of-kinds.ps) where
-  pub address-of-determined : (r r′ : ControllerAnswer) (e e′ : AtExit (endedOf 0 address-of-kinds.ps address-of-kinds.r) κs) → address-of.Post κs a r e → address-of.Post κs a r′ e′ → r ≡ r′
+  pub address-of-determined : OneAnswer (address-of.Post κs a)
   address-of-determined r r′ e e′ p q = controller-answer-is r r′ p q
 
 module _ (κs : Lfts 0) (a : Dens κs data-of-kinds.ps) where
-  pub data-of-determined : (r r′ : ControllerAnswer) (e e′ : AtExit (endedOf 0 data-of-kinds.ps data-of-kinds.r) κs) → data-of.Post κs a r e → data-of.Post κs a r′ e′ → r ≡ r′
+  pub data-of-determined : OneAnswer (data-of.Post κs a)
   data-of-determined r r′ e e′ p q = controller-answer-is r r′ p q
 
 -- ---- both records and memory
 
 module _ (κs : Lfts 5) (a : Dens κs read-of-kinds.ps) where
-  pub read-of-determined : (r r′ : ControllerAnswer) (e e′ : AtExit (endedOf 5 read-of-kinds.ps read-of-kinds.r) κs) → read-of.Post κs a r e → read-of.Post κs a r′ e′ → r ≡ r′
+  pub read-of-determined : OneAnswer (read-of.Post κs a)
   read-of-determined r r′ e e′ p q = ap₂ (λ (a : Answer) (g : ControllerRecord). record { answer = a; gc = g }) (answer-is (r .answer) (r′ .answer) (answer-of p q)) (gc-of p q)
 
 module _ (κs : Lfts 5) (a : Dens κs write-of-kinds.ps) where
-  pub write-of-determined : (r r′ : StatsAnswer) (e e′ : AtExit (endedOf 5 write-of-kinds.ps write-of-kinds.r) κs) → write-of.Post κs a r e → write-of.Post κs a r′ e′
-      → (r ≡ r′) × (lent (e .1 .1 .0) (e .1 .1 .1 .0) (e .1 .1 .1 .1 .0) (e .1 .1 .1 .1 .1 .0) (e .1 .1 .1 .1 .1 .1 .0) ≡ lent (e′ .1 .1 .0) (e′ .1 .1 .1 .0) (e′ .1 .1 .1 .1 .0) (e′ .1 .1 .1 .1 .1 .0) (e′ .1 .1 .1 .1 .1 .1 .0))
+  pub write-of-determined : OneOutcome (write-of.Post κs a) (λ e. lent (e .1 .1 .0) (e .1 .1 .1 .0) (e .1 .1 .1 .1 .0) (e .1 .1 .1 .1 .1 .0) (e .1 .1 .1 .1 .1 .1 .0))
   write-of-determined r r′ e e′ p q =
       (ap₂ (λ (a : Answer) (t : StatsRecord). record { answer = a; stats = t }) (answer-is (r .answer) (r′ .answer) (answer-of p q)) (ap (λ (g : ControllerRecord). g .stats) (gc-of p q)), ap (λ (h : Held). h .memory) (next-of p q))

@@ -1,11 +1,10 @@
 -- Any two outcomes that a call's contract permits for one input coincide: the answer itself, and each slice that the call may change. `Post` is each contract's own reading.
-use mathlib.Core.Path.{_≡_}
 use contract.Lifetimes.{Lfts}
 use denote.Triple.Clauses.{AtExit}
 use borrow.Fn.Kinds.{Dens, endedOf}
-use Rattle.types.specs.declared.answer.StoreAnswer.{StoreAnswer}
 use Rattle.machine.specs.Memory.{Memory, lent}
 use Rattle.machine.proofs.Injective.{answer-of, next-of, store-injective}
+use Rattle.types.proofs.OneAnswer.{OneOutcome}
 use Rattle.sequencer.proofs.direct.plane_set.Reads as plane-set
 use Rattle.sequencer.proofs.direct.plane_set.Kinds as plane-set-kinds
 use Rattle.sequencer.proofs.direct.plane_and.Reads as plane-and
@@ -21,13 +20,13 @@ abbrev left : (κs : Lfts 5) → Stored κs → Memory
 left κs e = lent (e .1 .0) (e .1 .1 .0) (e .1 .1 .1 .0) (e .1 .1 .1 .1 .0) (e .1 .1 .1 .1 .1 .0)
 
 module _ (κs : Lfts 5) (a : Dens κs plane-set-kinds.ps) where
-  pub plane-set-determined : (r r′ : StoreAnswer) (e e′ : Stored κs) → plane-set.Post κs a r e → plane-set.Post κs a r′ e′ → (r ≡ r′) × (left κs e ≡ left κs e′)
+  pub plane-set-determined : OneOutcome (plane-set.Post κs a) (left κs)
   plane-set-determined r r′ e e′ p q = (store-injective r r′ (answer-of p q), next-of p q)
 
 module _ (κs : Lfts 5) (a : Dens κs plane-and-kinds.ps) where
-  pub plane-and-determined : (r r′ : StoreAnswer) (e e′ : Stored κs) → plane-and.Post κs a r e → plane-and.Post κs a r′ e′ → (r ≡ r′) × (left κs e ≡ left κs e′)
+  pub plane-and-determined : OneOutcome (plane-and.Post κs a) (left κs)
   plane-and-determined r r′ e e′ p q = (store-injective r r′ (answer-of p q), next-of p q)
 
 module _ (κs : Lfts 5) (a : Dens κs plane-or-kinds.ps) where
-  pub plane-or-determined : (r r′ : StoreAnswer) (e e′ : Stored κs) → plane-or.Post κs a r e → plane-or.Post κs a r′ e′ → (r ≡ r′) × (left κs e ≡ left κs e′)
+  pub plane-or-determined : OneOutcome (plane-or.Post κs a) (left κs)
   plane-or-determined r r′ e e′ p q = (store-injective r r′ (answer-of p q), next-of p q)

@@ -1,10 +1,7 @@
 -- Any two outcomes that a call's contract permits for one input coincide: the answer itself, and the record that comes back. `Post` is each contract's own reading.
 use mathlib.Core.Path.{_≡_, ap₂}
 use contract.Lifetimes.{Lfts}
-use denote.Triple.Clauses.{AtExit}
-use borrow.Fn.Kinds.{Dens, endedOf}
-use Rattle.types.specs.declared.answer.ByteAnswer.{ByteAnswer}
-use Rattle.types.specs.declared.answer.ClockAnswer.{ClockAnswer}
+use borrow.Fn.Kinds.{Dens}
 use Rattle.types.specs.declared.answer.DoneAnswer.{DoneAnswer}
 use Rattle.types.specs.declared.answer.FlagAnswer.{FlagAnswer}
 use Rattle.types.specs.declared.answer.SequencerDone.{SequencerDone}
@@ -12,6 +9,7 @@ use Rattle.types.specs.declared.answer.SequencerFlag.{SequencerFlag}
 use Rattle.types.specs.declared.seq.Sequencer.{Sequencer}
 use Rattle.machine.specs.Answers.{Outcome, outcome, doneSaid, flagSaid}
 use Rattle.machine.proofs.Injective.{answer-of, next-of, byte-injective, done-injective, flag-injective, clock-injective}
+use Rattle.types.proofs.OneAnswer.{OneAnswer}
 use Rattle.sequencer_registers.proofs.registers.reset.Reads as reset
 use Rattle.sequencer_registers.proofs.registers.reset.Kinds as reset-kinds
 use Rattle.sequencer_registers.proofs.registers.clock.Reads as clock
@@ -39,33 +37,33 @@ flag-of r r′ p q =
     ap₂ (λ (a : FlagAnswer) (s : Sequencer). record { answer = a; seq = s }) (flag-injective (r .answer) (r′ .answer) (answer-of p q)) (next-of p q)
 
 module _ (κs : Lfts 0) (a : Dens κs reset-kinds.ps) where
-  pub reset-determined : (r r′ : Sequencer) (e e′ : AtExit (endedOf 0 reset-kinds.ps reset-kinds.r) κs) → reset.Post κs a r e → reset.Post κs a r′ e′ → r ≡ r′
+  pub reset-determined : OneAnswer (reset.Post κs a)
   reset-determined r r′ e e′ p q = next-of p q
 
 module _ (κs : Lfts 0) (a : Dens κs clock-kinds.ps) where
-  pub clock-determined : (r r′ : ClockAnswer) (e e′ : AtExit (endedOf 0 clock-kinds.ps clock-kinds.r) κs) → clock.Post κs a r e → clock.Post κs a r′ e′ → r ≡ r′
+  pub clock-determined : OneAnswer (clock.Post κs a)
   clock-determined r r′ e e′ p q = clock-injective r r′ (answer-of p q)
 
 module _ (κs : Lfts 0) (a : Dens κs set-clock-change-pending-kinds.ps) where
-  pub set-clock-change-pending-determined : (r r′ : SequencerDone) (e e′ : AtExit (endedOf 0 set-clock-change-pending-kinds.ps set-clock-change-pending-kinds.r) κs) → set-clock-change-pending.Post κs a r e → set-clock-change-pending.Post κs a r′ e′ → r ≡ r′
+  pub set-clock-change-pending-determined : OneAnswer (set-clock-change-pending.Post κs a)
   set-clock-change-pending-determined r r′ e e′ p q = done-of r r′ p q
 
 module _ (κs : Lfts 0) (a : Dens κs poll-clock-change-kinds.ps) where
-  pub poll-clock-change-determined : (r r′ : SequencerFlag) (e e′ : AtExit (endedOf 0 poll-clock-change-kinds.ps poll-clock-change-kinds.r) κs) → poll-clock-change.Post κs a r e → poll-clock-change.Post κs a r′ e′ → r ≡ r′
+  pub poll-clock-change-determined : OneAnswer (poll-clock-change.Post κs a)
   poll-clock-change-determined r r′ e e′ p q = flag-of r r′ p q
 
 module _ (κs : Lfts 0) (a : Dens κs read-address-kinds.ps) where
-  pub read-address-determined : (r r′ : ByteAnswer) (e e′ : AtExit (endedOf 0 read-address-kinds.ps read-address-kinds.r) κs) → read-address.Post κs a r e → read-address.Post κs a r′ e′ → r ≡ r′
+  pub read-address-determined : OneAnswer (read-address.Post κs a)
   read-address-determined r r′ e e′ p q = byte-injective r r′ (answer-of p q)
 
 module _ (κs : Lfts 0) (a : Dens κs write-address-kinds.ps) where
-  pub write-address-determined : (r r′ : SequencerDone) (e e′ : AtExit (endedOf 0 write-address-kinds.ps write-address-kinds.r) κs) → write-address.Post κs a r e → write-address.Post κs a r′ e′ → r ≡ r′
+  pub write-address-determined : OneAnswer (write-address.Post κs a)
   write-address-determined r r′ e e′ p q = done-of r r′ p q
 
 module _ (κs : Lfts 0) (a : Dens κs read-data-kinds.ps) where
-  pub read-data-determined : (r r′ : ByteAnswer) (e e′ : AtExit (endedOf 0 read-data-kinds.ps read-data-kinds.r) κs) → read-data.Post κs a r e → read-data.Post κs a r′ e′ → r ≡ r′
+  pub read-data-determined : OneAnswer (read-data.Post κs a)
   read-data-determined r r′ e e′ p q = byte-injective r r′ (answer-of p q)
 
 module _ (κs : Lfts 0) (a : Dens κs write-data-kinds.ps) where
-  pub write-data-determined : (r r′ : SequencerDone) (e e′ : AtExit (endedOf 0 write-data-kinds.ps write-data-kinds.r) κs) → write-data.Post κs a r e → write-data.Post κs a r′ e′ → r ≡ r′
+  pub write-data-determined : OneAnswer (write-data.Post κs a)
   write-data-determined r r′ e e′ p q = done-of r r′ p q

@@ -10,6 +10,7 @@ use Rattle.tape_machine.specs.declared.told.Handed.{Handed}
 use Rattle.tape_machine.specs.declared.told.Handed.the-variants.{Byte, Pixels, Nothing}
 use Rattle.tape_calls.specs.declared.calls.Performed.{Performed}
 use Rattle.tape_machine.specs.Told.{handedValue, toldSaid, handedOf}
+use Rattle.types.proofs.OneAnswer.{OneOutcome}
 use Rattle.tape_calls.proofs.calls.perform.Reads as perform
 use Rattle.tape_calls.proofs.calls.perform.Kinds as perform-kinds
 
@@ -41,7 +42,7 @@ module _ (κs : Lfts 5) (a : Dens κs perform-kinds.ps) where
   abbrev left : Done → Memory
   left e = lent (e .1 .1 .0) (e .1 .1 .1 .0) (e .1 .1 .1 .1 .0) (e .1 .1 .1 .1 .1 .0) (e .1 .1 .1 .1 .1 .1 .0)
 
-  pub perform-determined : (r r′ : Performed) (e e′ : Done) → perform.Post κs a r e → perform.Post κs a r′ e′ → (r ≡ r′) × (left e ≡ left e′)
+  pub perform-determined : OneOutcome (perform.Post κs a) left
   perform-determined r r′ e e′ p q = (
     sym (performed-back r (left e)) ∙ ap performedBack (p ∙ sym q) ∙ performed-back r′ (left e′),
     ap (λ (o : Outcome State). o .next .memory) (p ∙ sym q),

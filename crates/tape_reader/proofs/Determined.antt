@@ -10,6 +10,7 @@ use Rattle.machine.specs.Memory.{Memory, lent}
 use Rattle.tape_machine.specs.declared.ran.Ran.{Ran}
 use Rattle.tape_machine.specs.Run.{TapeRun}
 use Rattle.tape_machine.specs.Program.{Printed}
+use Rattle.types.proofs.OneAnswer.{OneOutcome}
 use Rattle.tape_reader.proofs.whole.run.Reads as run
 use Rattle.tape_reader.proofs.whole.run.Kinds as run-kinds
 use Rattle.tape_reader.proofs.program.run_from_start.Reads as run-from-start
@@ -40,5 +41,5 @@ module _ (κs : Lfts 2) (a : Dens κs run-from-start-kinds.ps) where
   abbrev lines : Left → List ℕ
   lines e = now (e .1 .0)
 
-  pub run-from-start-determined : (r r′ : Ran) (e e′ : Left) → run-from-start.Post κs a r e → run-from-start.Post κs a r′ e′ → (r ≡ r′) × (lines e ≡ lines e′)
+  pub run-from-start-determined : OneOutcome (run-from-start.Post κs a) lines
   run-from-start-determined r r′ e e′ p q = (ap (λ (o : Printed). o .ran) (p ∙ sym q), ap (λ (o : Printed). o .out) (p ∙ sym q))

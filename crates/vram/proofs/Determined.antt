@@ -5,10 +5,10 @@ use contract.Lifetimes.{Lfts}
 use denote.Ref.{now}
 use denote.Triple.Clauses.{AtExit}
 use borrow.Fn.Kinds.{Dens, endedOf}
-use Rattle.types.specs.declared.answer.StoreAnswer.{StoreAnswer}
 use Rattle.types.specs.declared.answer.DoneAnswer.{DoneAnswer}
 use Rattle.machine.specs.Memory.{Memory, lent}
 use Rattle.machine.proofs.Injective.{answer-of, next-of, store-injective, done-injective}
+use Rattle.types.proofs.OneAnswer.{OneOutcome}
 use Rattle.vram.proofs.write_u8.Reads as write-u8
 use Rattle.vram.proofs.write_u8.Kinds as write-u8-kinds
 use Rattle.vram.proofs.deplane.Reads as deplane
@@ -28,21 +28,21 @@ abbrev left : (κs : Lfts 5) → Stored κs → Memory
 left κs e = lent (e .0) (e .1 .0) (e .1 .1 .0) (e .1 .1 .1 .0) (e .1 .1 .1 .1 .0)
 
 module _ (κs : Lfts 5) (a : Dens κs write-u8-kinds.ps) where
-  pub write-u8-determined : (r r′ : StoreAnswer) (e e′ : Stored κs) → write-u8.Post κs a r e → write-u8.Post κs a r′ e′ → (r ≡ r′) × (left κs e ≡ left κs e′)
+  pub write-u8-determined : OneOutcome (write-u8.Post κs a) (left κs)
   write-u8-determined r r′ e e′ p q = (store-injective r r′ (answer-of p q), next-of p q)
 
 module _ (κs : Lfts 5) (a : Dens κs deplane-kinds.ps) where
-  pub deplane-determined : (r r′ : DoneAnswer) (e e′ : AtExit (endedOf 5 deplane-kinds.ps deplane-kinds.r) κs) → deplane.Post κs a r e → deplane.Post κs a r′ e′ → (r ≡ r′) × (now (e .1 .1 .1 .1 .0) ≡ now (e′ .1 .1 .1 .1 .0))
+  pub deplane-determined : OneOutcome (deplane.Post κs a) (λ e. now (e .1 .1 .1 .1 .0))
   deplane-determined r r′ e e′ p q = (done-injective r r′ (answer-of p q), ap (λ (m : Memory). m .picture) (next-of p q))
 
 module _ (κs : Lfts 5) (a : Dens κs plane-set-kinds.ps) where
-  pub plane-set-determined : (r r′ : StoreAnswer) (e e′ : Stored κs) → plane-set.Post κs a r e → plane-set.Post κs a r′ e′ → (r ≡ r′) × (left κs e ≡ left κs e′)
+  pub plane-set-determined : OneOutcome (plane-set.Post κs a) (left κs)
   plane-set-determined r r′ e e′ p q = (store-injective r r′ (answer-of p q), next-of p q)
 
 module _ (κs : Lfts 5) (a : Dens κs plane-and-kinds.ps) where
-  pub plane-and-determined : (r r′ : StoreAnswer) (e e′ : Stored κs) → plane-and.Post κs a r e → plane-and.Post κs a r′ e′ → (r ≡ r′) × (left κs e ≡ left κs e′)
+  pub plane-and-determined : OneOutcome (plane-and.Post κs a) (left κs)
   plane-and-determined r r′ e e′ p q = (store-injective r r′ (answer-of p q), next-of p q)
 
 module _ (κs : Lfts 5) (a : Dens κs plane-or-kinds.ps) where
-  pub plane-or-determined : (r r′ : StoreAnswer) (e e′ : Stored κs) → plane-or.Post κs a r e → plane-or.Post κs a r′ e′ → (r ≡ r′) × (left κs e ≡ left κs e′)
+  pub plane-or-determined : OneOutcome (plane-or.Post κs a) (left κs)
   plane-or-determined r r′ e e′ p q = (store-injective r r′ (answer-of p q), next-of p q)
