@@ -34,5 +34,6 @@ pub same3 : (f g : ℕ → ℕ → ℕ → ℕ) → T (every 2 (λ a. every 2 (�
 same3 = agree3 2 2 2
 
 -- four numbers
-pub agree4 : (n m k l : ℕ) (f g : ℕ → ℕ → ℕ → ℕ → ℕ) → T (every n (λ a. every m (λ b. every k (λ c. every l (λ d. eqb (f a b c d) (g a b c d)))))) → (a b c d : ℕ) → a < n → b < m → c < k → d < l → f a b c d ≡ g a b c d
+pub agree4 : (n m k l : ℕ) (f g : ℕ → ℕ → ℕ → ℕ → ℕ) → T (every n (λ a. every m (λ b. every k (λ c. every l (λ d. eqb (f a b c d) (g a b c d)))))) → (a b c d : ℕ) → a < n
+    → b < m → c < k → d < l → f a b c d ≡ g a b c d
 agree4 n m k l f g t a b c d ha = agree3 m k l (f a) (g a) (every-at n (λ a. every m (λ b. every k (λ c. every l (λ d. eqb (f a b c d) (g a b c d))))) t a ha) b c d

@@ -19,7 +19,8 @@ use Rattle.refusals_access.proofs.Windows.{left}
 -- the answer of `judge_address` to `map_address`: no memory is tested, and every offset of 16 bits is within 65,536
 pub mapped-anywhere : (g : GraphicsController) (x : ℕ) (page : Bool) (d : MappedAnswer) (f : Bool) (w : MemoryMap) (c : Bool)
     → f ≡ fitsGc (g .registers) → w ≡ memoryMap (g .registers) → c ≡ chained (g .registers)
-    → outcome (mappedSaid d) x ≡ answered (refuse f 6 (refuse true 1 (refuse (inWindow w x) 2 (refuse (ltb (mapped w c x page % 65536) 65536) 3 0)))) (two (mapped w c x page % 65536) (bitOf (a0 x))) x x
+    → outcome (mappedSaid d) x ≡ answered (refuse f 6 (refuse true 1 (refuse (inWindow w x) 2 (refuse (ltb (mapped w c x page % 65536) 65536) 3 0))))
+    (two (mapped w c x page % 65536) (bitOf (a0 x))) x x
     → outcome (mappedSaid d) g ≡ graphicsStep g (gcMapAddress x page)
 unfolding graphicsStep gcNumberOf gcValue gcNext offset
 mapped-anywhere g x page d f w c ef ew ec e =

@@ -80,7 +80,8 @@ module _ (r : GraphicsRegisters) (s : Sequencer) (h : Shape) (x : ℕ) (page : B
 -- the answer of `judge_address`, by the tests of both records and of the memory
 pub judged : (r : GraphicsRegisters) (s : Sequencer) (m : Memory) (x : ℕ) (page : Bool) (d : MappedAnswer) (f g : Bool) (w : MemoryMap) (c : Bool)
     → f ≡ fitsBoth r s → g ≡ sound (shape m) → w ≡ memoryMap r → c ≡ chained r
-    → outcome (mappedSaid d) x ≡ answered (refuse f 6 (refuse g 1 (refuse (inWindow w x) 2 (refuse (ltb (mapped w c x page % 65536) (length (m .p0))) 3 0)))) (two (mapped w c x page % 65536) (bitOf (a0 x))) x x
+    → outcome (mappedSaid d) x ≡ answered (refuse f 6 (refuse g 1 (refuse (inWindow w x) 2 (refuse (ltb (mapped w c x page % 65536) (length (m .p0))) 3 0))))
+    (two (mapped w c x page % 65536) (bitOf (a0 x))) x x
     → outcome (mappedSaid d) r ≡ answered (accessNumber r s (shape m) x page) (two (offset r x page) (bitOf (a0 x))) r r
 unfolding accessNumber offset
 judged r s m x page d f g w c ef eg ew ec e =

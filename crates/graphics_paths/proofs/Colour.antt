@@ -49,9 +49,14 @@ module _ (care colour : ℕ) (l : List ℕ) where
   agreed p = byteOf (λ i. bitOf (pick (isOne (bit p care)) (eqb (bit i (latch l p)) (bit p colour)) true))
 
   at : (p i : ℕ) → i < 8 → bit i (agreed p) ≡ bitOf (pick (isOne (bit p care)) (eqb (bit i (latch l p)) (bit p colour)) true)
-  at p i h = bit-of 8 (λ i. bitOf (pick (isOne (bit p care)) (eqb (bit i (latch l p)) (bit p colour)) true)) (λ i. bit-of-test (pick (isOne (bit p care)) (eqb (bit i (latch l p)) (bit p colour)) true)) i h
+  at p i h =
+      bit-of 8 (λ i. bitOf (pick (isOne (bit p care)) (eqb (bit i (latch l p)) (bit p colour)) true))
+      (λ i. bit-of-test (pick (isOne (bit p care)) (eqb (bit i (latch l p)) (bit p colour)) true)) i h
 
   pub all-agreed : bitAnd (bitAnd (bitAnd (agreed 0) (agreed 1)) (agreed 2)) (agreed 3) ≡ compared care colour l
   unfolding agrees compared
-  all-agreed = is-of 8 (and8 (bitAnd (bitAnd (agreed 0) (agreed 1)) (agreed 2)) (agreed 3) (of-lt 8 (λ i. bitOf (pick (isOne (bit 3 care)) (eqb (bit i (latch l 3)) (bit 3 colour)) true)) (λ i. bit-of-test (pick (isOne (bit 3 care)) (eqb (bit i (latch l 3)) (bit 3 colour)) true)))) (λ i h.
+  all-agreed =
+      let of-8 = of-lt 8 (λ i. bitOf (pick (isOne (bit 3 care)) (eqb (bit i (latch l 3)) (bit 3 colour)) true))
+      (λ i. bit-of-test (pick (isOne (bit 3 care)) (eqb (bit i (latch l 3)) (bit 3 colour)) true)) in
+      is-of 8 (and8 (bitAnd (bitAnd (agreed 0) (agreed 1)) (agreed 2)) (agreed 3) of-8) (λ i h.
       simp (bit-and, at 0 i h, at 1 i h, at 2 i h, at 3 i h) (all-four (λ p. pick (isOne (bit p care)) (eqb (bit i (latch l p)) (bit p colour)) true)))

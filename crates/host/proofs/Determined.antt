@@ -303,7 +303,9 @@ module _ {M : Type 1} (𝓤 : URA M) (H : Heap 𝓤) (A : Atoms 𝓤) (at-mem : 
 
 module _ {M : Type 1} (𝓤 : URA M) (H : Heap 𝓤) (A : Atoms 𝓤) (at-mem : Store → SProp 𝓤) (run : Routine → Fun 𝓤) (κs : Lfts 6) (a : Args gc-cpu-read-u8.signature κs) where
   abbrev gc-cpu-read-u8-post : Answer → AtExit gc-cpu-read-u8.ended κs → Type 0
-  gc-cpu-read-u8-post r e = outcome (answerSaid r) (held (now (e .0)) (lent (a .1 .1 .0) (a .1 .1 .1 .0) (a .1 .1 .1 .1 .0) (a .1 .1 .1 .1 .1 .0) (a .1 .1 .1 .1 .1 .1 .0))) ≡ cpuHosted (now (a .0)) (a .1 .0) (lent (a .1 .1 .0) (a .1 .1 .1 .0) (a .1 .1 .1 .1 .0) (a .1 .1 .1 .1 .1 .0) (a .1 .1 .1 .1 .1 .1 .0)) (one 0) (cpuRead (a .1 .1 .1 .1 .1 .1 .1 .0) (isSet (a .1 .1 .1 .1 .1 .1 .1 .1 .0)))
+  gc-cpu-read-u8-post r e =
+      let m = lent (a .1 .1 .0) (a .1 .1 .1 .0) (a .1 .1 .1 .1 .0) (a .1 .1 .1 .1 .1 .0) (a .1 .1 .1 .1 .1 .1 .0) in
+      outcome (answerSaid r) (held (now (e .0)) m) ≡ cpuHosted (now (a .0)) (a .1 .0) m (one 0) (cpuRead (a .1 .1 .1 .1 .1 .1 .1 .0) (isSet (a .1 .1 .1 .1 .1 .1 .1 .1 .0)))
 
   gc-cpu-read-u8-reads : (r : Answer) (e : AtExit gc-cpu-read-u8.ended κs) → gc-cpu-read-u8.clauses 𝓤 H A at-mem run κs a .ensures tt r e ≡ fact 𝓤 (gc-cpu-read-u8-post r e)
   gc-cpu-read-u8-reads r e = refl
@@ -313,7 +315,10 @@ module _ {M : Type 1} (𝓤 : URA M) (H : Heap 𝓤) (A : Atoms 𝓤) (at-mem : 
 
 module _ {M : Type 1} (𝓤 : URA M) (H : Heap 𝓤) (A : Atoms 𝓤) (at-mem : Store → SProp 𝓤) (run : Routine → Fun 𝓤) (κs : Lfts 6) (a : Args gc-cpu-write-u8.signature κs) where
   abbrev gc-cpu-write-u8-post : Answer → AtExit gc-cpu-write-u8.ended κs → Type 0
-  gc-cpu-write-u8-post r e = outcome (answerSaid r) (held (now (e .0)) (lent (e .1 .1 .0) (e .1 .1 .1 .0) (e .1 .1 .1 .1 .0) (e .1 .1 .1 .1 .1 .0) (e .1 .1 .1 .1 .1 .1 .0))) ≡ cpuHosted (now (a .0)) (a .1 .0) (lent (a .1 .1 .0) (a .1 .1 .1 .0) (a .1 .1 .1 .1 .0) (a .1 .1 .1 .1 .1 .0) (a .1 .1 .1 .1 .1 .1 .0)) (one 0) (cpuWrite (a .1 .1 .1 .1 .1 .1 .1 .0) (isSet (a .1 .1 .1 .1 .1 .1 .1 .1 .0)) (a .1 .1 .1 .1 .1 .1 .1 .1 .1 .0))
+  gc-cpu-write-u8-post r e =
+      let m = lent (a .1 .1 .0) (a .1 .1 .1 .0) (a .1 .1 .1 .1 .0) (a .1 .1 .1 .1 .1 .0) (a .1 .1 .1 .1 .1 .1 .0) in
+      let m′ = lent (e .1 .1 .0) (e .1 .1 .1 .0) (e .1 .1 .1 .1 .0) (e .1 .1 .1 .1 .1 .0) (e .1 .1 .1 .1 .1 .1 .0) in
+      outcome (answerSaid r) (held (now (e .0)) m′) ≡ cpuHosted (now (a .0)) (a .1 .0) m (one 0) (cpuWrite (a .1 .1 .1 .1 .1 .1 .1 .0) (isSet (a .1 .1 .1 .1 .1 .1 .1 .1 .0)) (a .1 .1 .1 .1 .1 .1 .1 .1 .1 .0))
 
   gc-cpu-write-u8-reads : (r : Answer) (e : AtExit gc-cpu-write-u8.ended κs) → gc-cpu-write-u8.clauses 𝓤 H A at-mem run κs a .ensures tt r e ≡ fact 𝓤 (gc-cpu-write-u8-post r e)
   gc-cpu-write-u8-reads r e = refl

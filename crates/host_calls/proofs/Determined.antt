@@ -52,4 +52,5 @@ module _ (κs : Lfts 5) (a : Dens κs read-of-kinds.ps) where
 module _ (κs : Lfts 5) (a : Dens κs write-of-kinds.ps) where
   pub write-of-determined : OneOutcome (write-of.Post κs a) (λ e. lent (e .1 .1 .0) (e .1 .1 .1 .0) (e .1 .1 .1 .1 .0) (e .1 .1 .1 .1 .1 .0) (e .1 .1 .1 .1 .1 .1 .0))
   write-of-determined r r′ e e′ p q =
-      (ap₂ (λ (a : Answer) (t : StatsRecord). record { answer = a; stats = t }) (answer-is (r .answer) (r′ .answer) (answer-of p q)) (ap (λ (g : ControllerRecord). g .stats) (gc-of p q)), ap (λ (h : Held). h .memory) (next-of p q))
+      let same-stats = ap (λ (g : ControllerRecord). g .stats) (gc-of p q) in
+      (ap₂ (λ (a : Answer) (t : StatsRecord). record { answer = a; stats = t }) (answer-is (r .answer) (r′ .answer) (answer-of p q)) same-stats, ap (λ (h : Held). h .memory) (next-of p q))

@@ -104,7 +104,8 @@ module _ (g : ControllerRecord) (s : SequencerRecord) (m : Memory) (v : Value) (
   cpu-left : true ≡ knownBoth g s → lifted (heldOf (g .spare)) (cpuStep (controllerOf g) (sequencerOf s) m c) ≡ leftTo (heldOf (g .spare)) (cpuStep (controllerOf g) (sequencerOf s) m c) (held g m)
   unfolding cpuStep
   cpu-left e =
-      sym (left-lifted (heldOf (g .spare)) (cpuPlan (controllerOf g .registers) (sequencerOf s) (shape m) c .ask .number) _ _ (device (controllerOf g) m) (held g m) (ap (λ (h : ControllerRecord). held h m) (record-back g (known-gc g s e))))
+      let number = cpuPlan (controllerOf g .registers) (sequencerOf s) (shape m) c .ask .number in
+      sym (left-lifted (heldOf (g .spare)) number _ _ (device (controllerOf g) m) (held g m) (ap (λ (h : ControllerRecord). held h m) (record-back g (known-gc g s e))))
 
   pub cpu-known : true ≡ knownBoth g s → (g′ : GraphicsController) (s′ : Sequencer) → g′ ≡ controllerOf g → s′ ≡ sequencerOf s
       → (a b : Said) (n : GraphicsController) (h : ControllerRecord) (m′ : Memory) → b ≡ a → h ≡ controllerRecordOf (g .spare) n

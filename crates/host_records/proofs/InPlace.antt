@@ -68,5 +68,6 @@ pub stats-is : (r : StatsAnswer) → Is C.the-row r (stats-rval r ∷ []) → Is
 stats-is r is = LL.owed C.the-type C′.the-laws r _ is .1 .0
 
 -- the record with those counters in it
-pub stats-gc-is : (h : ControllerRecord) → Is G.the-row h (gval h ∷ []) → (r : StatsAnswer) → Is C.the-row r (stats-rval r ∷ []) → Is G.the-row (withStats (r .stats) h) (gval (withStats (r .stats) h) ∷ [])
+pub stats-gc-is : (h : ControllerRecord) → Is G.the-row h (gval h ∷ []) → (r : StatsAnswer) → Is C.the-row r (stats-rval r ∷ [])
+    → Is G.the-row (withStats (r .stats) h) (gval (withStats (r .stats) h) ∷ [])
 stats-gc-is h g r is = LL.owes G.the-type G′.the-laws (withStats (r .stats) h) (stats-is r is, LL.owed G.the-type G′.the-laws h _ g .1)

@@ -37,11 +37,25 @@ isSet (suc n) = true
 
 -- the counters
 abbrev pub statsOf : StatsRecord → GraphicsControllerStats
-statsOf c = record { «mode_0_writes» = c .«mode_0_writes»; «mode_1_writes» = c .«mode_1_writes»; «mode_2_writes» = c .«mode_2_writes»; «mode_3_writes» = c .«mode_3_writes»; «mode_0_reads» = c .«mode_0_reads»; «mode_1_reads» = c .«mode_1_reads» }
+statsOf c = record {
+  «mode_0_writes» = c .«mode_0_writes»;
+  «mode_1_writes» = c .«mode_1_writes»;
+  «mode_2_writes» = c .«mode_2_writes»;
+  «mode_3_writes» = c .«mode_3_writes»;
+  «mode_0_reads» = c .«mode_0_reads»;
+  «mode_1_reads» = c .«mode_1_reads»;
+}
 
 -- the counters as a host keeps them
 abbrev pub statsRecordOf : GraphicsControllerStats → StatsRecord
-statsRecordOf c = record { «mode_0_writes» = c .«mode_0_writes»; «mode_1_writes» = c .«mode_1_writes»; «mode_2_writes» = c .«mode_2_writes»; «mode_3_writes» = c .«mode_3_writes»; «mode_0_reads» = c .«mode_0_reads»; «mode_1_reads» = c .«mode_1_reads» }
+statsRecordOf c = record {
+  «mode_0_writes» = c .«mode_0_writes»;
+  «mode_1_writes» = c .«mode_1_writes»;
+  «mode_2_writes» = c .«mode_2_writes»;
+  «mode_3_writes» = c .«mode_3_writes»;
+  «mode_0_reads» = c .«mode_0_reads»;
+  «mode_1_reads» = c .«mode_1_reads»;
+}
 
 -- the controller that a host's record of known number means
 abbrev pub controllerOf : ControllerRecord → GraphicsController

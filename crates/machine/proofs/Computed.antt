@@ -7,7 +7,8 @@ use Rattle.machine.specs.Sequencer.{selectsSeq, withSeqAddress, seqKeeps
 use Rattle.machine.specs.Address.{inWindow, mapped, offset}
 use Rattle.machine.specs.DataPath.{dataBit, combined, masked, writtenBit, visits, selectedPlane}
 use Rattle.machine.specs.Deeds.{loaded, pixelOf, remade, storedByte, laid, stored, agrees, compared, latchesAfter, memoryAfter, valueOf, perform}
-use Rattle.machine.specs.Calls.{offsetNumber, planeNumber, placeNumber, shownNumber, vramPlan, seqNumberOf, seqValue, seqNext, directPlan, gcNumberOf, gcValue, gcNext, accessNumber, showNumber, counted, readReply, writeDeed, cpuPlan}
+use Rattle.machine.specs.Calls.{offsetNumber, planeNumber, placeNumber, shownNumber, vramPlan, seqNumberOf, seqValue, seqNext, directPlan, gcNumberOf, gcValue}
+use Rattle.machine.specs.Calls.{gcNext, accessNumber, showNumber, counted, readReply, writeDeed, cpuPlan}
 use Rattle.machine.specs.Step.{vramStep, sequencerStep, directStep, graphicsStep, cpuStep, State, Call, step, Run, run}
 
 unfoldable pub computed : State → List Call → Run

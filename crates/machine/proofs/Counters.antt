@@ -17,7 +17,8 @@ use Rattle.types.specs.declared.shape.Shape.{Shape}
 use Rattle.machine.specs.Memory.{shape}
 use Rattle.machine.specs.Answers.{Value, answered}
 use Rattle.machine.specs.Graphics.{readMode, writeMode}
-use Rattle.machine.specs.Calls.{GraphicsCall, gcReset, gcChain, gcChain4, gcMemoryMap, gcOddEven, gcShiftMode, gcReadAddress, gcReadData, gcWriteAddress, gcWriteData, gcMapAddress, gcNumberOf, gcValue, gcNext}
+use Rattle.machine.specs.Calls.{GraphicsCall, gcReset, gcChain, gcChain4, gcMemoryMap, gcOddEven, gcShiftMode, gcReadAddress, gcReadData, gcWriteAddress}
+use Rattle.machine.specs.Calls.{gcWriteData, gcMapAddress, gcNumberOf, gcValue, gcNext}
 use Rattle.machine.specs.Calls.{CpuCall, cpuRead, cpuPeek, cpuWrite, serialize, writeCounter, readCounter, counted, cpuPlan}
 use Rattle.machine.specs.Step.{graphicsStep, cpuStep, Device, State, Call, vram, sequencer, direct, graphics, cpu, step, run}
 use Rattle.machine.specs.Claims.{total, accesses, sinceReset, counts, tally}
@@ -79,7 +80,9 @@ module _ (n : ℕ) (s : State) (h : Shows n s) where
 
   cpu-shows : (c : CpuCall) → total (step s (cpu c) .next .gc .stats) % 2 ^ 32 ≡ counts n s (cpu c) % 2 ^ 32
   unfolding step cpuStep counts
-  cpu-shows c = answered-shows (cpuPlan (s .gc .registers) (s .seq) (shape (s .memory)) c .ask .number) (accesses c) _ _ _ (cpu-counted (s .gc .stats) (s .gc .registers) (s .seq) (shape (s .memory)) c) refl
+  cpu-shows c =
+      answered-shows (cpuPlan (s .gc .registers) (s .seq) (shape (s .memory)) c .ask .number) (accesses c) _ _ _
+      (cpu-counted (s .gc .stats) (s .gc .registers) (s .seq) (shape (s .memory)) c) refl
 
   step-shows : (c : Call) → Shows (counts n s c) (step s c .next)
   unfolding step counts

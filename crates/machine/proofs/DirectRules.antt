@@ -42,7 +42,8 @@ directly =
     -- set, and, or: of vram.rs, with no mask; of the sequencer
     ∷ each (λ p. says (vram (writeU8 p 2 0xCC) ∷ []) (vram (planeAnd p 2 0xAA) ∷ vram (readU8 p 2) ∷ vram (planeOr p 2 0x0F) ∷ vram (peekU8 p 2) ∷ vram (planeSet p 2 0x21) ∷ vram (readU8 p 2) ∷ []))
     (0 ∷ 1 ∷ 2 ∷ 3 ∷ [])
-    ∷ each (λ p. says (seqTo 4 4 ++ (seqTo 2 15 ++ (direct (seqPlaneSet p 2 false 0xCC) ∷ []))) (direct (seqPlaneAnd p 2 false 0xAA) ∷ vram (readU8 p 2) ∷ direct (seqPlaneOr p 2 false 0x0F) ∷ vram (readU8 p 2) ∷ []))
+    ∷ each (λ p. says (seqTo 4 4 ++ (seqTo 2 15 ++ (direct (seqPlaneSet p 2 false 0xCC) ∷ [])))
+    (direct (seqPlaneAnd p 2 false 0xAA) ∷ vram (readU8 p 2) ∷ direct (seqPlaneOr p 2 false 0x0F) ∷ vram (readU8 p 2) ∷ []))
     (0 ∷ 1 ∷ 2 ∷ 3 ∷ [])
     ∷ tops (direct (seqPlaneAnd 0 0 false 0xAA) ∷ vram (writeU8 1 1 0xCC) ∷ direct (seqPlaneAnd 1 1 true 0xAA) ∷ direct (seqPlaneOr 2 0 false 0x0F) ∷ [])
     -- `read_glyph` reads plane 2

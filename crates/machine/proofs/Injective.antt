@@ -32,7 +32,8 @@ use Rattle.types.specs.declared.gc.OddEvenModeComplement.{OddEvenModeComplement
 use Rattle.types.specs.declared.gc.OddEvenModeComplement.the-variants.{Sequential, OddEven}
 use Rattle.types.specs.declared.gc.ShiftMode.{ShiftMode}
 use Rattle.types.specs.declared.gc.ShiftMode.the-variants.{Standard, CGACompatible, Chain4, Unused}
-use Rattle.machine.specs.Answers.{refusalNumber, Value, one, two, pixel, part, pixelsOf, Said, Outcome, outcome, byteSaid, pixelSaid, storeSaid, doneSaid, flagSaid, clockSaid, mapSaid, oddEvenSaid, shiftSaid, mappedSaid}
+use Rattle.machine.specs.Answers.{refusalNumber, Value, one, two, pixel, part, pixelsOf, Said, Outcome, outcome, byteSaid, pixelSaid, storeSaid, doneSaid}
+use Rattle.machine.specs.Answers.{flagSaid, clockSaid, mapSaid, oddEvenSaid, shiftSaid, mappedSaid}
 
 -- two outcomes that are the machine's are one: the same is said, and the same is left
 module _ {S : Type 0} {a b : Said} {s t : S} {o : Outcome S} (p : outcome a s ≡ o) (q : outcome b t ≡ o) where

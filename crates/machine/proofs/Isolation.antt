@@ -20,13 +20,17 @@ use Rattle.machine.specs.Memory.{Memory, plane, planes, shape}
 use Rattle.machine.specs.Answers.{Value, blank, Outcome, answered}
 use Rattle.machine.specs.Graphics.{gcOf, readMode, withAddress, withData}
 use Rattle.machine.specs.Address.{offset}
-use Rattle.machine.specs.Deeds.{Deed, rest, load, store, remake, Reply, known, byteAt, compare, pixelAt, pixelsAt, Plan, byte, latch, loaded, pixelOf, eight, remade, storedByte, laid, any, stored, agrees, compared, latchesAfter, memoryAfter, valueOf, perform}
+use Rattle.machine.specs.Deeds.{Deed, rest, load, store, remake, Reply, known, byteAt, compare, pixelAt, pixelsAt, Plan, byte, latch, loaded, pixelOf, eight}
+use Rattle.machine.specs.Deeds.{remade, storedByte, laid, any, stored, agrees, compared, latchesAfter, memoryAfter, valueOf, perform}
 use Rattle.machine.specs.Calls.{VramCall, readU8, peekU8, readGlyph, readLinear, serializeLinear, writeU8, planeSet, planeAnd, planeOr, deplane, vramPlan}
 use Rattle.machine.specs.Calls.{DirectCall, seqCpuReadU8, seqPeekU8, seqGcReadU8, seqReadLinear, seqSerializeLinear, seqPlaneSet, seqPlaneAnd, seqPlaneOr, directPlan}
-use Rattle.machine.specs.Calls.{GraphicsCall, gcReset, gcChain, gcChain4, gcMemoryMap, gcOddEven, gcShiftMode, gcReadAddress, gcReadData, gcWriteAddress, gcWriteData, gcMapAddress, gcNumberOf, gcValue, gcNext}
+use Rattle.machine.specs.Calls.{GraphicsCall, gcReset, gcChain, gcChain4, gcMemoryMap, gcOddEven, gcShiftMode, gcReadAddress, gcReadData, gcWriteAddress}
+use Rattle.machine.specs.Calls.{gcWriteData, gcMapAddress, gcNumberOf, gcValue, gcNext}
 use Rattle.machine.specs.Calls.{CpuCall, cpuRead, cpuPeek, cpuWrite, serialize, CpuPlan, cpuPlan, readReply, counted}
-use Rattle.machine.specs.Step.{vramStep, sequencerStep, directStep, graphicsStep, Device, device, cpuAfter, cpuPerform, cpuStep, State, Call, vram, sequencer, direct, graphics, cpu, lifted, step}
-use Rattle.machine.specs.Isolation.{Agree, Both, none, more, AlikeMemory, AlikeLatches, AlikeGc, Alike, vramNotFrom, directNotFrom, selectedNotFrom, cpuNotFrom, NotFrom, comparedWithout, cpuWithout, ComparesWithout, cpuNoPeek, NoPeek, Obeys, ObeysAccepted, Along}
+use Rattle.machine.specs.Step.{vramStep, sequencerStep, directStep, graphicsStep, Device, device, cpuAfter, cpuPerform, cpuStep, State, Call, vram, sequencer}
+use Rattle.machine.specs.Step.{direct, graphics, cpu, lifted, step}
+use Rattle.machine.specs.Isolation.{Agree, Both, none, more, AlikeMemory, AlikeLatches, AlikeGc, Alike, vramNotFrom, directNotFrom, selectedNotFrom, cpuNotFrom}
+use Rattle.machine.specs.Isolation.{NotFrom, comparedWithout, cpuWithout, ComparesWithout, cpuNoPeek, NoPeek, Obeys, ObeysAccepted, Along}
 use Rattle.machine.specs.Isolation.{AlikeValue, same, pixels, parts, Together, Throughout}
 use Rattle.machine.proofs.Laws.{answered-number}
 

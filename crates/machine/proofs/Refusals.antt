@@ -27,8 +27,10 @@ use Rattle.machine.specs.Calls.{SequencerCall, seqReset, seqClock, seqSe
 use Rattle.machine.specs.Calls.{DirectCall, seqCpuReadU8, seqPeekU8, seqGcReadU8, seqReadLinear, seqSerializeLinear, seqPlaneSet, seqPlaneAnd, seqPlaneOr, directPlan}
 use Rattle.machine.specs.Calls.{GraphicsCall, gcReset, gcChain, gcChain4, gcMemoryMap, gcOddEven, gcShiftMode, gcReadAddress, gcReadData, gcWriteAddress, gcWriteData, gcMapAddress, gcNumberOf}
 use Rattle.machine.specs.Calls.{CpuCall, cpuRead, cpuPeek, cpuWrite, serialize, cpuPlan}
-use Rattle.machine.specs.Step.{vramStep, sequencerStep, directStep, graphicsStep, device, cpuStep, State, Call, vram, sequencer, direct, graphics, cpu, lifted, withMemory, withSeq, withGc, withDevice, step}
-use Rattle.machine.specs.Claims.{Check, check, RightGc, RightSeq, InWindow, forBoth, forMemory, forPlane, forWindow, forOffset, forShown, forPlace, vramChecks, sequencerChecks, directChecks, graphicsChecks, cpuChecks, checks, Given, done, here, later, order, inOrder, Stays}
+use Rattle.machine.specs.Step.{vramStep, sequencerStep, directStep, graphicsStep, device, cpuStep, State, Call, vram, sequencer, direct, graphics, cpu, lifted}
+use Rattle.machine.specs.Step.{withMemory, withSeq, withGc, withDevice, step}
+use Rattle.machine.specs.Claims.{Check, check, RightGc, RightSeq, InWindow, forBoth, forMemory, forPlane, forWindow, forOffset, forShown, forPlace, vramChecks}
+use Rattle.machine.specs.Claims.{sequencerChecks, directChecks, graphicsChecks, cpuChecks, checks, Given, done, here, later, order, inOrder, Stays}
 use Rattle.machine.proofs.Laws.{answered-number}
 
 -- ---- a test and what it tests
@@ -278,7 +280,8 @@ refused-in-order s (graphics c) = graphics-ordered (s .gc .registers) c
 refused-in-order s (cpu c) = cpu-ordered (s .gc .registers) (s .seq) (s .memory) c
 
 -- what the word rules out: neighbours exchanged, a number twice, a number that is none
-pub out-of-order : map (λ ns. inOrder order (map (λ n. check n (Unit {0})) ns)) ((1 ∷ 6 ∷ []) ∷ (9 ∷ 1 ∷ []) ∷ (4 ∷ 9 ∷ []) ∷ (2 ∷ 4 ∷ []) ∷ (3 ∷ 2 ∷ []) ∷ (5 ∷ 3 ∷ []) ∷ (6 ∷ 6 ∷ []) ∷ (7 ∷ []) ∷ []) ≡ replicate 8 false
+pub out-of-order : map (λ ns. inOrder order (map (λ n. check n (Unit {0})) ns))
+    ((1 ∷ 6 ∷ []) ∷ (9 ∷ 1 ∷ []) ∷ (4 ∷ 9 ∷ []) ∷ (2 ∷ 4 ∷ []) ∷ (3 ∷ 2 ∷ []) ∷ (5 ∷ 3 ∷ []) ∷ (6 ∷ 6 ∷ []) ∷ (7 ∷ []) ∷ []) ≡ replicate 8 false
 out-of-order = refl
 
 blank-blank : (v : Value) → blank v ≡ blank (blank v)

@@ -63,9 +63,11 @@ registers =
     ∷ each (λ x. says (seqTo 1 x) (sequencer seqClock ∷ []) ++ divides (seqTo 1 x)) (1 ∷ 0 ∷ 9 ∷ 8 ∷ [])
     -- what the mark's two calls and writes to other registers leave alone
     ∷ seqHolds (seqAll 1 8 6 7 9 ++ (sequencer seqSetClockChangePending ∷ sequencer seqPollClockChange ∷ []))
-    ∷ (says (seqAll 1 8 6 7 9) (sequencer seqSetClockChangePending ∷ sequencer seqPollClockChange ∷ sequencer seqClock ∷ sequencer seqReadAddress ∷ sequencer seqReadData ∷ []) ++ divides (seqAll 1 8 6 7 9 ++ (sequencer seqSetClockChangePending ∷ sequencer seqPollClockChange ∷ [])))
+    ∷ (says (seqAll 1 8 6 7 9) (sequencer seqSetClockChangePending ∷ sequencer seqPollClockChange ∷ sequencer seqClock ∷ sequencer seqReadAddress ∷ sequencer seqReadData ∷ [])
+    ++ divides (seqAll 1 8 6 7 9 ++ (sequencer seqSetClockChangePending ∷ sequencer seqPollClockChange ∷ [])))
     -- the sequencer's reset restores its start
-    ∷ (says (seqTo 1 9) (sequencer seqReset ∷ sequencer seqClock ∷ sequencer seqPollClockChange ∷ sequencer seqReadAddress ∷ sequencer seqReadData ∷ []) ++ divides (seqTo 1 9 ++ (sequencer seqReset ∷ [])))
+    ∷ (says (seqTo 1 9) (sequencer seqReset ∷ sequencer seqClock ∷ sequencer seqPollClockChange ∷ sequencer seqReadAddress ∷ sequencer seqReadData ∷ [])
+    ++ divides (seqTo 1 9 ++ (sequencer seqReset ∷ [])))
     ∷ []
 
 pub registersSaid : List (List ℕ)

@@ -6,7 +6,8 @@ use Rattle.machine.specs.Memory.{Memory, shape}
 use Rattle.machine.specs.Answers.{Said, Outcome, outcome, answered}
 use Rattle.machine.specs.Graphics.{gcOf}
 use Rattle.machine.specs.Deeds.{Plan, latchesAfter, memoryAfter, valueOf, perform}
-use Rattle.machine.specs.Calls.{VramCall, vramPlan, SequencerCall, seqNumberOf, seqValue, seqNext, DirectCall, directPlan, GraphicsCall, gcNumberOf, gcValue, gcNext, CpuCall, CpuPlan, cpuPlan, counted}
+use Rattle.machine.specs.Calls.{VramCall, vramPlan, SequencerCall, seqNumberOf, seqValue, seqNext, DirectCall, directPlan, GraphicsCall, gcNumberOf, gcValue}
+use Rattle.machine.specs.Calls.{gcNext, CpuCall, CpuPlan, cpuPlan, counted}
 
 -- ---- the five layers, each over what its calls are handed
 

@@ -38,6 +38,7 @@ module _ (κs : Lfts 5) (a : Dens κs read-linear-kinds.ps) where
   read-linear-determined r r′ e e′ p q = pixel-injective r r′ (answer-of p q)
 
 module _ (κs : Lfts 6) (a : Dens κs serialize-linear-kinds.ps) where
-  pub serialize-linear-determined : (r r′ : RefT (List ℕ)) (e e′ : AtExit (endedOf 6 serialize-linear-kinds.ps serialize-linear-kinds.r) κs) → serialize-linear.Post κs a r e → serialize-linear.Post κs a r′ e′
+  pub serialize-linear-determined : (r r′ : RefT (List ℕ)) (e e′ : AtExit (endedOf 6 serialize-linear-kinds.ps serialize-linear-kinds.r) κs)
+      → serialize-linear.Post κs a r e → serialize-linear.Post κs a r′ e′
       → (now r ≡ now r′) × (now (e .1 .1 .1 .1 .1 .1 .1 .0) ≡ now (e′ .1 .1 .1 .1 .1 .1 .1 .0))
   serialize-linear-determined r r′ e e′ p q = (pixels-of p q, ap (λ (s : Said). s .number) (answer-of p q))

@@ -30,7 +30,8 @@ module _ (g : GraphicsController) (s : Sequencer) (m : Memory) where
   unfolding step
   sequencer-so c e f h k = rw (f, h, k) (ap (lifted (withSeq (state g s m))) e)
 
-  pub reset-so : {t : Said} {g′ : GraphicsController} {s′ : Sequencer} → outcome (said 0 (one 0)) s′ ≡ sequencerStep s seqReset → outcome (said 0 (one 0)) g′ ≡ graphicsStep g gcReset → t ≡ said 0 (one 0)
+  pub reset-so : {t : Said} {g′ : GraphicsController} {s′ : Sequencer} → outcome (said 0 (one 0)) s′ ≡ sequencerStep s seqReset
+      → outcome (said 0 (one 0)) g′ ≡ graphicsStep g gcReset → t ≡ said 0 (one 0)
       → outcome t (state g′ s′ m) ≡ performed (state g s m) Reset
   unfolding performed step
   reset-so e f h = rw (h, ← e, ← f)

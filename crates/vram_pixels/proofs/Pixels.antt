@@ -44,7 +44,8 @@ module _ (m : Memory) (o s x : ℕ) (is : x ≡ across m o s + 16 * across m o (
 pub remade-halves : (m : Memory) (o i w x y z : ℕ) → i ≡ 8 * o
     → w ≡ across m o 3 + 16 * across m o 7 → x ≡ across m o 2 + 16 * across m o 6 → y ≡ across m o 1 + 16 * across m o 5 → z ≡ across m o 0 + 16 * across m o 4
     → mem (m .p0) (m .p1) (m .p2) (m .p3)
-    (set (set (set (set (set (set (set (set (m .picture) i (w / 16)) (i + 1) (x / 16)) (i + 2) (y / 16)) (i + 3) (z / 16)) (i + 4) (bitAnd w 15)) (i + 5) (bitAnd x 15)) (i + 6) (bitAnd y 15)) (i + 7) (bitAnd z 15)) ≡ remade o m
+    (set (set (set (set (set (set (set (set (m .picture) i (w / 16)) (i + 1) (x / 16)) (i + 2) (y / 16)) (i + 3) (z / 16))
+    (i + 4) (bitAnd w 15)) (i + 5) (bitAnd x 15)) (i + 6) (bitAnd y 15)) (i + 7) (bitAnd z 15)) ≡ remade o m
 remade-halves m o i w x y z ei ew ex ey ez = remade-eight m o i _ _ _ _ _ _ _ _ ei
     (high-half m o 3 w ew) (high-half m o 2 x ex) (high-half m o 1 y ey) (high-half m o 0 z ez)
     (low-half m o 3 w ew) (low-half m o 2 x ex) (low-half m o 1 y ey) (low-half m o 0 z ez)
