@@ -12,5 +12,9 @@ use Rattle.machine.specs.Calls.{gcNext, accessNumber, showNumber, counte
 use Rattle.machine.specs.Step.{vramStep, sequencerStep, directStep, graphicsStep, cpuStep, State, Call, step, Run, run}
 
 unfoldable pub computed : State → List Call → Run
-unfolding bit field ofBits sound selects withAddress keeps withData dataOf fitsGc rotateCount logicFunction writeMode readMode oddEven shiftMode chained memoryMap selectsSeq withSeqAddress seqKeeps withSeqData seqDataOf withMark fitsSeq seqOddEven chainFour inMask storedAt gcReadAt inWindow mapped offset dataBit combined masked writtenBit visits selectedPlane loaded pixelOf remade storedByte laid stored agrees compared latchesAfter memoryAfter valueOf perform offsetNumber planeNumber placeNumber shownNumber vramPlan seqNumberOf seqValue seqNext directPlan gcNumberOf gcValue gcNext accessNumber showNumber counted readReply writeDeed cpuPlan vramStep sequencerStep directStep graphicsStep cpuStep step run
+unfolding bit field ofBits sound selects withAddress keeps withData dataOf fitsGc rotateCount logicFunction writeMode readMode oddEven shiftMode
+    chained memoryMap selectsSeq withSeqAddress seqKeeps withSeqData seqDataOf withMark fitsSeq seqOddEven chainFour inMask storedAt gcReadAt inWindow
+    mapped offset dataBit combined masked writtenBit visits selectedPlane loaded pixelOf remade storedByte laid stored agrees compared latchesAfter
+    memoryAfter valueOf perform offsetNumber planeNumber placeNumber shownNumber vramPlan seqNumberOf seqValue seqNext directPlan gcNumberOf gcValue
+    gcNext accessNumber showNumber counted readReply writeDeed cpuPlan vramStep sequencerStep directStep graphicsStep cpuStep step run
 computed s cs = run s cs
