@@ -55,7 +55,8 @@ fn read_byte(mode: ReadMode, registers: GraphicsRegisters, latches: [u8; 4], add
 // The answer of an accepted read, from the latches that it loaded: its mode's counter goes up, registers stay.
 fn read_done(gc: GraphicsController, latches: [u8; 4], address: usize) -> CpuByte
     requires { ⌜ gc .registers .«read_map_select» ≤ 3 ⌝ }
-    ensures { λ r. ⌜ outcome (byteSaid (r .answer)) (r .gc) ≡ outcome (said 0 (one (readByte (readMode (gc .registers)) (gc .registers) address latches))) (gcOf (gc .registers) (counted (readCounter (readMode (gc .registers))) (gc .stats)) latches) ⌝ }
+    ensures { λ r. ⌜ outcome (byteSaid (r .answer)) (r .gc)
+        ≡ outcome (said 0 (one (readByte (readMode (gc .registers)) (gc .registers) address latches))) (gcOf (gc .registers) (counted (readCounter (readMode (gc .registers))) (gc .stats)) latches) ⌝ }
 {
     let registers = gc.registers;
     let mode = fields::gc::read_mode(registers);

@@ -36,7 +36,8 @@ pub extern "C" fn iddesmar_gc_cpu_read_u8(
     address: usize,
     page: u8,
 ) -> Answer
-    ensures { λ r. ⌜ outcome (answerSaid r) (held (now (gc .exit)) (before p0 p1 p2 p3 picture)) ≡ cpuHosted (now (gc .entry)) seq (before p0 p1 p2 p3 picture) (one 0) (cpuRead address (isSet page)) ⌝ }
+    ensures { λ r. ⌜ outcome (answerSaid r) (held (now (gc .exit)) (before p0 p1 p2 p3 picture))
+        ≡ cpuHosted (now (gc .entry)) seq (before p0 p1 p2 p3 picture) (one 0) (cpuRead address (isSet page)) ⌝ }
 {
     let w = read_of(*gc, seq, p0, p1, p2, p3, picture, address, page);
     *gc = w.gc;
@@ -56,7 +57,8 @@ pub extern "C" fn iddesmar_gc_cpu_write_u8(
     page: u8,
     byte: u8,
 ) -> Answer
-    ensures { λ r. ⌜ outcome (answerSaid r) (held (now (gc .exit)) (after p0 p1 p2 p3 picture)) ≡ cpuHosted (now (gc .entry)) seq (before p0 p1 p2 p3 picture) (one 0) (cpuWrite address (isSet page) byte) ⌝ }
+    ensures { λ r. ⌜ outcome (answerSaid r) (held (now (gc .exit)) (after p0 p1 p2 p3 picture))
+        ≡ cpuHosted (now (gc .entry)) seq (before p0 p1 p2 p3 picture) (one 0) (cpuWrite address (isSet page) byte) ⌝ }
 {
     let w = write_of(*gc, seq, p0, p1, p2, p3, picture, address, page, byte);
     gc.stats = w.stats;

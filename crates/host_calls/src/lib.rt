@@ -76,7 +76,8 @@ pub fn write_of(
     page: u8,
     byte: u8,
 ) -> StatsAnswer
-    ensures { λ r. ⌜ outcome (answerSaid (r .answer)) (held (withStats (r .stats) gc) (after p0 p1 p2 p3 picture)) ≡ cpuHosted gc seq (before p0 p1 p2 p3 picture) (one 0) (cpuWrite address (isSet page) byte) ⌝ }
+    ensures { λ r. ⌜ outcome (answerSaid (r .answer)) (held (withStats (r .stats) gc) (after p0 p1 p2 p3 picture))
+        ≡ cpuHosted gc seq (before p0 p1 p2 p3 picture) (one 0) (cpuWrite address (isSet page) byte) ⌝ }
 {
     if !known(gc, seq) {
         return unknown_counters(gc);

@@ -102,7 +102,8 @@ pub fn judge_address(
     address: usize,
     page: bool,
 ) -> MappedAnswer
-    ensures { λ r. ⌜ outcome (mappedSaid r) address ≡ answered (refuse fits 6 (refuse shaped 1 (refuse (inWindow map address) 2 (refuse (ltb (mapped map chain address page % 65536) n) 3 0)))) (two (mapped map chain address page % 65536) (bitOf (a0 address))) address address ⌝ }
+    ensures { λ r. ⌜ outcome (mappedSaid r) address ≡ answered (refuse fits 6 (refuse shaped 1 (refuse (inWindow map address) 2 (refuse (ltb (mapped map chain address page % 65536) n) 3 0))))
+        (two (mapped map chain address page % 65536) (bitOf (a0 address))) address address ⌝ }
 {
     if !fits {
         return MappedAnswer::Refused(Refusal::State);
