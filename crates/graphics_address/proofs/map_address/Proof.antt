@@ -18,7 +18,11 @@ judge-address-requires c κs = search needs
 
 returns : tie.Need-returns
 returns c =
-    mapped-anywhere (c .before .before .before .before .before .args .gc) (c .before .before .before .before .before .args .address) (c .before .before .before .before .before .args .page) (c .judge-address .result) _ _ _ (c .before .before .before .fits-gc .ensures) (c .before .before .memory-map .ensures) (c .before .chain-odd-even .ensures) (c .judge-address .ensures)
+    let after-memory-map : tie.After-memory-map = search needs in
+    let after-fits-gc : tie.After-fits-gc = search needs in
+    let start : tie.Start = search needs in
+    mapped-anywhere (start .args .gc) (start .args .address) (start .args .page) (c .judge-address .result) _ _ _ (after-fits-gc .fits-gc .ensures)
+    (after-memory-map .memory-map .ensures) (c .before .chain-odd-even .ensures) (c .judge-address .ensures)
 
 pub map-address-spec : {M : Type 1} → statement M
 map-address-spec =

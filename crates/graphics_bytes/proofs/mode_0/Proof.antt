@@ -22,10 +22,11 @@ logic-step-requires c κs = search needs
 returns : tie.Need-returns
 unfolding masked
 returns c =
-    let a = c .before .before .before .args in
+    let after-set-reset : tie.After-set-reset = search needs in
+    let start : tie.Start = search needs in
+    let a = start .args in
     let r = a .registers in
-    c .logic-step .ensures ∙ rw (c .before .function .ensures, c .before .before .set-reset .ensures) (
-    step-of (logicFunction r) (r .bitmask) _ (a .latch) _
+    c .logic-step .ensures ∙ rw (c .before .function .ensures, after-set-reset .set-reset .ensures) (step-of (logicFunction r) (r .bitmask) _ (a .latch) _
     (data-bit (isOne (bit (a .plane) (r .«enable_set_reset»))) (bit (a .plane) (r .«set_reset»)) (a .turned) (bit-lt (a .plane) (r .«set_reset»))))
 
 pub mode-0-spec : {M : Type 1} → statement M

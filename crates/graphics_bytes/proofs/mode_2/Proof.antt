@@ -22,10 +22,12 @@ logic-step-requires c κs = search needs
 returns : tie.Need-returns
 unfolding masked
 returns c =
-    let a = c .before .before .before .args in
+    let after-spread : tie.After-spread = search needs in
+    let start : tie.Start = search needs in
+    let a = start .args in
     let r = a .registers in
-    c .logic-step .ensures ∙ rw (c .before .function .ensures, c .before .before .spread .ensures) (
-    step-of (logicFunction r) (r .bitmask) _ (a .latch) (λ i. bit (a .plane) (a .byte)) (λ i h. bit-spread i (bit (a .plane) (a .byte)) h (bit-lt (a .plane) (a .byte))))
+    c .logic-step .ensures ∙ rw (c .before .function .ensures, after-spread .spread .ensures)
+    (step-of (logicFunction r) (r .bitmask) _ (a .latch) (λ i. bit (a .plane) (a .byte)) (λ i h. bit-spread i (bit (a .plane) (a .byte)) h (bit-lt (a .plane) (a .byte))))
 
 pub mode-2-spec : {M : Type 1} → statement M
 mode-2-spec =

@@ -27,13 +27,15 @@ enum-told-4 c = search needs
 
 returns : tie.Need-returns
 returns c =
-    let a = c .before .before .before .args in
-    rw (c .before .enum-told .given .1) (c .mode-0 .ensures ∙ mode-0-is (a .registers) (a .byte) (a .plane) (a .latch) (a .turned) (c .before .before .before .pre .1))
+    let start : tie.Start = search needs in
+    let a = start .args in
+    rw (c .before .enum-told .given .1) (c .mode-0 .ensures ∙ mode-0-is (a .registers) (a .byte) (a .plane) (a .latch) (a .turned) (start .pre .1))
 
 returns-2 : tie.Need-returns-2
 unfolding writtenBit
 returns-2 c =
-    rw (c .enum-told2 .given .1) (sym (of-bit 8 (c .before .before .args .latch) (c .before .before .fits .latch .fits)))
+    let start : tie.Start = search needs in
+    rw (c .enum-told2 .given .1) (sym (of-bit 8 (start .args .latch) (start .fits .latch .fits)))
 
 returns-3 : tie.Need-returns-3
 unfolding writtenBit
@@ -43,7 +45,8 @@ returns-3 c =
 returns-4 : tie.Need-returns-4
 unfolding writtenBit
 returns-4 c =
-    rw (c .enum-told4 .given .1) (sym (of-bit 8 (c .before .before .args .latch) (c .before .before .fits .latch .fits)))
+    let start : tie.Start = search needs in
+    rw (c .enum-told4 .given .1) (sym (of-bit 8 (start .args .latch) (start .fits .latch .fits)))
 
 pub plane-byte-spec : {M : Type 1} → statement M
 plane-byte-spec =

@@ -21,33 +21,44 @@ array-read-plane-byte c = search needs
 
 plane-byte-requires : tie.Need-plane-byte-requires
 plane-byte-requires c κs =
-    (omega arith, turned-by (c .before .before .args .registers) (c .before .before .args .byte) _ _ (c .rotate-right-u8 .ensures) (c .before .rotate-count .ensures))
+    let start : tie.Start = search needs in
+    (omega arith, turned-by (start .args .registers) (start .args .byte) _ _ (c .rotate-right-u8 .ensures) (c .before .rotate-count .ensures))
 
 array-read-plane-byte-2 : tie.Need-array-read-plane-byte-2
 array-read-plane-byte-2 c = search needs
 
 plane-byte-requires-2 : tie.Need-plane-byte-requires-2
 plane-byte-requires-2 c κs =
-    (omega arith, turned-by (c .before .before .before .args .registers) (c .before .before .before .args .byte) _ _ (c .before .rotate-right-u8 .ensures) (c .before .before .rotate-count .ensures))
+    let after-rotate-count : tie.After-rotate-count = search needs in
+    let start : tie.Start = search needs in
+    (omega arith, turned-by (start .args .registers) (start .args .byte) _ _ (c .before .rotate-right-u8 .ensures) (after-rotate-count .rotate-count .ensures))
 
 array-read-plane-byte-3 : tie.Need-array-read-plane-byte-3
 array-read-plane-byte-3 c = search needs
 
 plane-byte-requires-3 : tie.Need-plane-byte-requires-3
 plane-byte-requires-3 c κs =
-    (omega arith, turned-by (c .before .before .before .before .args .registers) (c .before .before .before .before .args .byte) _ _ (c .before .before .rotate-right-u8 .ensures) (c .before .before .before .rotate-count .ensures))
+    let after-rotate-right-u8 : tie.After-rotate-right-u8 = search needs in
+    let after-rotate-count : tie.After-rotate-count = search needs in
+    let start : tie.Start = search needs in
+    (omega arith, turned-by (start .args .registers) (start .args .byte) _ _ (after-rotate-right-u8 .rotate-right-u8 .ensures) (after-rotate-count .rotate-count .ensures))
 
 array-read-plane-byte-4 : tie.Need-array-read-plane-byte-4
 array-read-plane-byte-4 c = search needs
 
 plane-byte-requires-4 : tie.Need-plane-byte-requires-4
 plane-byte-requires-4 c κs =
-    (omega arith, turned-by (c .before .before .before .before .before .args .registers) (c .before .before .before .before .before .args .byte) _ _ (c .before .before .before .rotate-right-u8 .ensures) (c .before .before .before .before .rotate-count .ensures))
+    let after-rotate-right-u8 : tie.After-rotate-right-u8 = search needs in
+    let after-rotate-count : tie.After-rotate-count = search needs in
+    let start : tie.Start = search needs in
+    (omega arith, turned-by (start .args .registers) (start .args .byte) _ _ (after-rotate-right-u8 .rotate-right-u8 .ensures) (after-rotate-count .rotate-count .ensures))
 
 returns : tie.Need-returns
 unfolding planeBytes
 returns c =
-    four-alike (c .before .before .before .plane-byte .ensures) (c .before .before .plane-byte2 .ensures) (c .before .plane-byte3 .ensures) (c .plane-byte4 .ensures)
+    let after-plane-byte2 : tie.After-plane-byte2 = search needs in
+    let after-plane-byte : tie.After-plane-byte = search needs in
+    four-alike (after-plane-byte .plane-byte .ensures) (after-plane-byte2 .plane-byte2 .ensures) (c .before .plane-byte3 .ensures) (c .plane-byte4 .ensures)
 
 pub plane-bytes-spec : {M : Type 1} → statement M
 plane-bytes-spec =

@@ -13,11 +13,13 @@ spread-requires c κs = search needs
 
 returns : tie.Need-returns
 returns c =
-    rw (bit-set (c .before .before .before .args .registers .«enable_set_reset») (c .before .before .before .args .plane) (omega arith) (c .before .if1 .taken)) (c .spread .ensures)
+    let start : tie.Start = search needs in
+    rw (bit-set (start .args .registers .«enable_set_reset») (start .args .plane) (omega arith) (c .before .if1 .taken)) (c .spread .ensures)
 
 returns-2 : tie.Need-returns-2
 returns-2 c =
-    rw (bit-clear (c .before .before .args .registers .«enable_set_reset») (c .before .before .args .plane) (omega arith) (c .if1 .left))
+    let start : tie.Start = search needs in
+    rw (bit-clear (start .args .registers .«enable_set_reset») (start .args .plane) (omega arith) (c .if1 .left))
 
 pub set-reset-spec : {M : Type 1} → statement M
 set-reset-spec = tie.close (tie.spec shl-if1 spread-requires returns returns-2)

@@ -14,11 +14,15 @@ returns c =
 
 returns-2 : tie.Need-returns-2
 returns-2 c =
-    simp (sym (c .before .before .before .before .shaped .ensures) ∙ not-false _ (c .before .before .before .if1 .left), lt-ltb _ _ (c .if2 .taken))
+    let else1 : tie.Else1 = search needs in
+    let after-shaped : tie.After-shaped = search needs in
+    simp (sym (after-shaped .shaped .ensures) ∙ not-false _ (else1 .if1 .left), lt-ltb _ _ (c .if2 .taken))
 
 returns-3 : tie.Need-returns-3
 returns-3 c =
-    simp (sym (c .before .before .before .before .shaped .ensures) ∙ not-false _ (c .before .before .before .if1 .left), le-ltb _ _ (c .if2 .left))
+    let else1 : tie.Else1 = search needs in
+    let after-shaped : tie.After-shaped = search needs in
+    simp (sym (after-shaped .shaped .ensures) ∙ not-false _ (else1 .if1 .left), le-ltb _ _ (c .if2 .left))
 
 pub judge-at-spec : {M : Type 1} → statement M
 judge-at-spec = tie.close (tie.spec shaped-requires returns returns-2 returns-3)

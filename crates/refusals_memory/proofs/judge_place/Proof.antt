@@ -17,11 +17,15 @@ returns c =
 
 returns-2 : tie.Need-returns-2
 returns-2 c =
-    place-out _ (sym (c .before .before .before .before .shaped .ensures) ∙ not-false _ (c .before .before .before .if1 .left)) _ (c .if2 .taken)
+    let else1 : tie.Else1 = search needs in
+    let after-shaped : tie.After-shaped = search needs in
+    place-out _ (sym (after-shaped .shaped .ensures) ∙ not-false _ (else1 .if1 .left)) _ (c .if2 .taken)
 
 returns-3 : tie.Need-returns-3
 returns-3 c =
-    place-in _ (sym (c .before .before .before .before .shaped .ensures) ∙ not-false _ (c .before .before .before .if1 .left)) _ (c .if2 .left)
+    let else1 : tie.Else1 = search needs in
+    let after-shaped : tie.After-shaped = search needs in
+    place-in _ (sym (after-shaped .shaped .ensures) ∙ not-false _ (else1 .if1 .left)) _ (c .if2 .left)
 
 pub judge-place-spec : {M : Type 1} → statement M
 judge-place-spec = tie.close (tie.spec shaped-requires returns returns-2 returns-3)

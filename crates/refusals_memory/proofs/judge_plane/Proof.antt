@@ -17,17 +17,34 @@ returns c =
 returns-2 : tie.Need-returns-2
 unfolding planeNumber
 returns-2 c =
-    simp (sym (c .before .before .shaped .ensures) ∙ not-false _ (c .before .if1 .left), lt-leb _ 3 (c .if2 .taken))
+    let after-shaped : tie.After-shaped = search needs in
+    simp (sym (after-shaped .shaped .ensures) ∙ not-false _ (c .before .if1 .left), lt-leb _ 3 (c .if2 .taken))
 
 returns-3 : tie.Need-returns-3
 unfolding planeNumber
 returns-3 c =
-    simp (sym (c .before .before .before .shaped .ensures) ∙ not-false _ (c .before .before .if1 .left), le-leb _ 3 (c .before .if2 .left), le-ltb (c .before .before .before .before .args .offset .0) (c .before .before .before .before .args .shape .p0) (c .if3 .taken))
+    let else1 : tie.Else1 = search needs in
+    let after-shaped : tie.After-shaped = search needs in
+    let start : tie.Start = search needs in
+    simp (
+      sym (after-shaped .shaped .ensures) ∙ not-false _ (else1 .if1 .left),
+      le-leb _ 3 (c .before .if2 .left),
+      le-ltb (start .args .offset .0) (start .args .shape .p0)
+          (c .if3 .taken),
+    )
 
 returns-4 : tie.Need-returns-4
 unfolding planeNumber
 returns-4 c =
-    simp (sym (c .before .before .before .shaped .ensures) ∙ not-false _ (c .before .before .if1 .left), le-leb _ 3 (c .before .if2 .left), lt-ltb (c .before .before .before .before .args .offset .0) (c .before .before .before .before .args .shape .p0) (c .if3 .left))
+    let else1 : tie.Else1 = search needs in
+    let after-shaped : tie.After-shaped = search needs in
+    let start : tie.Start = search needs in
+    simp (
+      sym (after-shaped .shaped .ensures) ∙ not-false _ (else1 .if1 .left),
+      le-leb _ 3 (c .before .if2 .left),
+      lt-ltb (start .args .offset .0) (start .args .shape .p0)
+          (c .if3 .left),
+    )
 
 pub judge-plane-spec : {M : Type 1} → statement M
 judge-plane-spec = tie.close (tie.spec shaped-requires returns returns-2 returns-3 returns-4)

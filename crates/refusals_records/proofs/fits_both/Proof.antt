@@ -17,7 +17,8 @@ fits-seq-requires c κs = search needs
 
 returns-2 : tie.Need-returns-2
 returns-2 c =
-    simp (sym (c .before .before .fits-gc .ensures) ∙ not-false _ (c .before .if1 .left)) (c .fits-seq .ensures)
+    let after-fits-gc : tie.After-fits-gc = search needs in
+    simp (sym (after-fits-gc .fits-gc .ensures) ∙ not-false _ (c .before .if1 .left)) (c .fits-seq .ensures)
 
 pub fits-both-spec : {M : Type 1} → statement M
 fits-both-spec = tie.close (tie.spec fits-gc-requires returns fits-seq-requires returns-2)

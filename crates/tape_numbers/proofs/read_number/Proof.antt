@@ -27,67 +27,117 @@ wide-requires c κs =
 
 returns : tie.Need-returns Inv-loop μ-loop
 returns c =
-    too-large _ _ _ _ _ _ _ _ (c .before .before .before .before .loop .inv) (c .before .wide .ensures) (c .before .before .before .loop-test .taken) (c .if1 .taken)
+    let in-loop : tie.In-loop Inv-loop μ-loop = search needs in
+    let at-loop : tie.At-loop Inv-loop μ-loop = search needs in
+    too-large _ _ _ _ _ _ _ _ (at-loop .loop .inv) (c .before .wide .ensures) (in-loop .loop-test .taken) (c .if1 .taken)
 
 mul-t14 : tie.Need-mul-t14 Inv-loop μ-loop
 mul-t14 c =
-    omega (arith, fits _ _ _ _ _ _ _ _ (c .before .before .before .before .before .before .loop .inv) (c .before .before .before .wide .ensures) (c .before .before .before .before .before .loop-test .taken) (c .before .before .if1 .left))
+    let else1 : tie.Else1 Inv-loop μ-loop = search needs in
+    let after-wide : tie.After-wide Inv-loop μ-loop = search needs in
+    let in-loop : tie.In-loop Inv-loop μ-loop = search needs in
+    let at-loop : tie.At-loop Inv-loop μ-loop = search needs in
+    omega (arith, fits _ _ _ _ _ _ _ _ (at-loop .loop .inv) (after-wide .wide .ensures) (in-loop .loop-test .taken) (else1 .if1 .left))
 
 add-t15 : tie.Need-add-t15 Inv-loop μ-loop
 add-t15 c =
-    omega (arith, fits _ _ _ _ _ _ _ _ (c .before .before .before .before .before .before .loop .inv) (c .before .before .before .wide .ensures) (c .before .before .before .before .before .loop-test .taken) (c .before .before .if1 .left))
+    let else1 : tie.Else1 Inv-loop μ-loop = search needs in
+    let after-wide : tie.After-wide Inv-loop μ-loop = search needs in
+    let in-loop : tie.In-loop Inv-loop μ-loop = search needs in
+    let at-loop : tie.At-loop Inv-loop μ-loop = search needs in
+    omega (arith, fits _ _ _ _ _ _ _ _ (at-loop .loop .inv) (after-wide .wide .ensures) (in-loop .loop-test .taken) (else1 .if1 .left))
 
 sub-t16 : tie.Need-sub-t16 Inv-loop μ-loop
 sub-t16 c =
-    omega (arith, c .before .before .before .before .before .before .loop .inv .start)
+    let at-loop : tie.At-loop Inv-loop μ-loop = search needs in
+    omega (arith, at-loop .loop .inv .start)
 
 add-t17 : tie.Need-add-t17 Inv-loop μ-loop
 add-t17 c =
-    omega (arith, c .before .before .before .before .before .loop-test .taken)
+    let in-loop : tie.In-loop Inv-loop μ-loop = search needs in
+    omega (arith, in-loop .loop-test .taken)
 
 returns-2 : tie.Need-returns-2 Inv-loop μ-loop
 returns-2 c =
-    whole _ _ _ _ _ _ _ _ (c .before .before .before .before .before .before .loop .inv) (c .before .before .before .wide .ensures) (c .before .before .before .before .before .loop-test .taken) (c .before .before .if1 .left) (c .before .if2 .taken) (c .if3 .taken)
+    let else1 : tie.Else1 Inv-loop μ-loop = search needs in
+    let after-wide : tie.After-wide Inv-loop μ-loop = search needs in
+    let in-loop : tie.In-loop Inv-loop μ-loop = search needs in
+    let at-loop : tie.At-loop Inv-loop μ-loop = search needs in
+    whole _ _ _ _ _ _ _ _ (at-loop .loop .inv) (after-wide .wide .ensures) (in-loop .loop-test .taken) (else1 .if1 .left) (c .before .if2 .taken) (c .if3 .taken)
 
 returns-3 : tie.Need-returns-3 Inv-loop μ-loop
 returns-3 c =
-    padded _ _ _ _ _ _ _ _ (c .before .before .before .before .before .before .before .loop .inv) (c .before .before .before .before .wide .ensures) (c .before .before .before .before .before .before .loop-test .taken) (c .before .before .before .if1 .left) (c .before .if3 .left) (c .if4 .taken)
+    let else1 : tie.Else1 Inv-loop μ-loop = search needs in
+    let after-wide : tie.After-wide Inv-loop μ-loop = search needs in
+    let in-loop : tie.In-loop Inv-loop μ-loop = search needs in
+    let at-loop : tie.At-loop Inv-loop μ-loop = search needs in
+    padded _ _ _ _ _ _ _ _ (at-loop .loop .inv) (after-wide .wide .ensures) (in-loop .loop-test .taken) (else1 .if1 .left) (c .before .if3 .left) (c .if4 .taken)
 
 sub-t18 : tie.Need-sub-t18 Inv-loop μ-loop
 sub-t18 c =
-    omega (arith, c .before .before .before .before .before .before .before .loop .inv .start)
+    let at-loop : tie.At-loop Inv-loop μ-loop = search needs in
+    omega (arith, at-loop .loop .inv .start)
 
 add-t19 : tie.Need-add-t19 Inv-loop μ-loop
 add-t19 c =
-    omega (arith, c .before .before .before .before .before .before .loop-test .taken)
+    let in-loop : tie.In-loop Inv-loop μ-loop = search needs in
+    omega (arith, in-loop .loop-test .taken)
 
 returns-4 : tie.Need-returns-4 Inv-loop μ-loop
 returns-4 c =
-    nought _ _ _ _ _ _ _ _ (c .before .before .before .before .before .before .before .loop .inv) (c .before .before .before .before .wide .ensures) (c .before .before .before .before .before .before .loop-test .taken) (c .before .before .before .if1 .left) (c .before .if3 .left) (c .if4 .left)
+    let else1 : tie.Else1 Inv-loop μ-loop = search needs in
+    let after-wide : tie.After-wide Inv-loop μ-loop = search needs in
+    let in-loop : tie.In-loop Inv-loop μ-loop = search needs in
+    let at-loop : tie.At-loop Inv-loop μ-loop = search needs in
+    nought _ _ _ _ _ _ _ _ (at-loop .loop .inv) (after-wide .wide .ensures) (in-loop .loop-test .taken) (else1 .if1 .left) (c .before .if3 .left) (c .if4 .left)
 
 mul-value : tie.Need-mul-value Inv-loop μ-loop
 mul-value c =
-    omega (arith, below _ _ _ _ _ _ _ _ (c .before .before .before .before .before .loop .inv) (c .before .before .wide .ensures) (c .before .before .before .before .loop-test .taken) (c .before .if1 .left) (c .if2 .left) (omega (arith, c .before .before .before .shared-slice-known2 .given (c .before .before .before .before .before .loop .at))))
+    let after-wide : tie.After-wide Inv-loop μ-loop = search needs in
+    let after-shared-slice-known2 : tie.After-shared-slice-known2 Inv-loop μ-loop = search needs in
+    let in-loop : tie.In-loop Inv-loop μ-loop = search needs in
+    let at-loop : tie.At-loop Inv-loop μ-loop = search needs in
+    omega (
+      arith,
+      below _ _ _ _ _ _ _ _ (at-loop .loop .inv) (after-wide .wide .ensures) (in-loop .loop-test .taken) (c .before .if1 .left) (c .if2 .left) (omega (arith, after-shared-slice-known2 .shared-slice-known2 .given (at-loop .loop .at))),
+    )
 
 add-value : tie.Need-add-value Inv-loop μ-loop
 add-value c =
-    omega (arith, below _ _ _ _ _ _ _ _ (c .before .before .before .before .before .loop .inv) (c .before .before .wide .ensures) (c .before .before .before .before .loop-test .taken) (c .before .if1 .left) (c .if2 .left) (omega (arith, c .before .before .before .shared-slice-known2 .given (c .before .before .before .before .before .loop .at))))
+    let after-wide : tie.After-wide Inv-loop μ-loop = search needs in
+    let after-shared-slice-known2 : tie.After-shared-slice-known2 Inv-loop μ-loop = search needs in
+    let in-loop : tie.In-loop Inv-loop μ-loop = search needs in
+    let at-loop : tie.At-loop Inv-loop μ-loop = search needs in
+    omega (
+      arith,
+      below _ _ _ _ _ _ _ _ (at-loop .loop .inv) (after-wide .wide .ensures) (in-loop .loop-test .taken) (c .before .if1 .left) (c .if2 .left) (omega (arith, after-shared-slice-known2 .shared-slice-known2 .given (at-loop .loop .at))),
+    )
 
 mul-weight : tie.Need-mul-weight Inv-loop μ-loop
 mul-weight c =
-    omega (arith, heavier _ _ _ _ _ _ _ _ (c .before .before .before .before .before .loop .inv) (c .before .before .wide .ensures) (c .before .before .before .before .loop-test .taken) (c .before .if1 .left) (c .if2 .left))
+    let after-wide : tie.After-wide Inv-loop μ-loop = search needs in
+    let in-loop : tie.In-loop Inv-loop μ-loop = search needs in
+    let at-loop : tie.At-loop Inv-loop μ-loop = search needs in
+    omega (arith, heavier _ _ _ _ _ _ _ _ (at-loop .loop .inv) (after-wide .wide .ensures) (in-loop .loop-test .taken) (c .before .if1 .left) (c .if2 .left))
 
 add-at : tie.Need-add-at Inv-loop μ-loop
 add-at c =
-    omega (arith, c .before .before .before .before .loop-test .taken)
+    let in-loop : tie.In-loop Inv-loop μ-loop = search needs in
+    omega (arith, in-loop .loop-test .taken)
 
 loop-less : tie.Need-loop-less Inv-loop μ-loop
 loop-less c =
-    omega (arith, c .before .before .before .before .loop-test .taken)
+    let in-loop : tie.In-loop Inv-loop μ-loop = search needs in
+    omega (arith, in-loop .loop-test .taken)
 
 loop-again : tie.Need-loop-again Inv-loop μ-loop
 loop-again c =
-    again _ _ _ _ _ _ _ _ (c .before .before .before .before .before .loop .inv) (c .before .before .wide .ensures) (c .before .before .before .before .loop-test .taken) (c .before .if1 .left) (c .if2 .left) (omega (arith, c .before .before .before .shared-slice-known2 .given (c .before .before .before .before .before .loop .at)))
+    let after-wide : tie.After-wide Inv-loop μ-loop = search needs in
+    let after-shared-slice-known2 : tie.After-shared-slice-known2 Inv-loop μ-loop = search needs in
+    let in-loop : tie.In-loop Inv-loop μ-loop = search needs in
+    let at-loop : tie.At-loop Inv-loop μ-loop = search needs in
+    again _ _ _ _ _ _ _ _ (at-loop .loop .inv) (after-wide .wide .ensures) (in-loop .loop-test .taken) (c .before .if1 .left) (c .if2 .left)
+    (omega (arith, after-shared-slice-known2 .shared-slice-known2 .given (at-loop .loop .at)))
 
 returns-5 : tie.Need-returns-5 Inv-loop μ-loop
 returns-5 c =

@@ -35,7 +35,9 @@ shared-slice-read-t22 c = search needs
 
 returns-2 : tie.Need-returns-2
 returns-2 c =
-    simp (eq-eqb _ _ (c .before .before .before .before .before .before .before .before .if1 .left), eight (c .before .before .before .before .before .before .before .before .before .args .part .now) (c .before .before .before .before .before .before .before .before .if1 .left))
+    let else1 : tie.Else1 = search needs in
+    let start : tie.Start = search needs in
+    simp (eq-eqb _ _ (else1 .if1 .left), eight (start .args .part .now) (else1 .if1 .left))
 
 pub of-part-spec : {M : Type 1} → statement M
 of-part-spec =

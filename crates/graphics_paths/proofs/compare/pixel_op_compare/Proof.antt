@@ -30,7 +30,11 @@ plane-comp-requires-4 c κs = search needs
 
 returns : tie.Need-returns
 returns c =
-    rw (c .before .before .before .plane-comp .ensures, c .before .before .plane-comp2 .ensures, c .before .plane-comp3 .ensures, c .plane-comp4 .ensures) (all-agreed (c .before .before .before .before .args .color-dont-care) (c .before .before .before .before .args .color-compare) (c .before .before .before .before .args .t3))
+    let after-plane-comp2 : tie.After-plane-comp2 = search needs in
+    let after-plane-comp : tie.After-plane-comp = search needs in
+    let start : tie.Start = search needs in
+    rw (after-plane-comp .plane-comp .ensures, after-plane-comp2 .plane-comp2 .ensures, c .before .plane-comp3 .ensures, c .plane-comp4 .ensures)
+    (all-agreed (start .args .color-dont-care) (start .args .color-compare) (start .args .t3))
 
 pub pixel-op-compare-spec : {M : Type 1} → statement M
 pixel-op-compare-spec =

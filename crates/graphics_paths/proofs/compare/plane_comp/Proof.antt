@@ -16,8 +16,9 @@ spread-requires c κs = search needs
 
 returns : tie.Need-returns
 returns c =
-    rw (bit-set (c .before .before .args .color-dont-care) (c .before .before .args .plane) (omega arith) (c .before .if1 .taken))
-    (same-bits (c .before .before .args .latch) (c .spread .result) (bit (c .before .before .args .plane) (c .before .before .args .color-compare)) (search needs) (search needs) (bit-lt _ _) (c .spread .ensures))
+    let start : tie.Start = search needs in
+    rw (bit-set (start .args .color-dont-care) (start .args .plane) (omega arith) (c .before .if1 .taken))
+    (same-bits (start .args .latch) (c .spread .result) (bit (start .args .plane) (start .args .color-compare)) (search needs) (search needs) (bit-lt _ _) (c .spread .ensures))
 
 returns-2 : tie.Need-returns-2
 unfolding ofBits

@@ -23,14 +23,17 @@ enum-told-2 c = search needs
 returns : tie.Need-returns
 unfolding selectedPlane
 returns c =
-    simp (sym (c .before .before .odd-even .ensures) ∙ c .enum-told .given .1)
+    let after-odd-even : tie.After-odd-even = search needs in
+    simp (sym (after-odd-even .odd-even .ensures) ∙ c .enum-told .given .1)
 
 returns-2 : tie.Need-returns-2
 unfolding selectedPlane
 returns-2 c =
-    let a = c .before .before .before .before .args in
+    let after-odd-even : tie.After-odd-even = search needs in
+    let start : tie.Start = search needs in
+    let a = start .args in
     bit0-replaced (a .registers .«read_map_select») _ (omega arith) (and-le-r (a .address) 1)
-    ∙ simp (sym (c .before .before .odd-even .ensures) ∙ c .enum-told2 .given .1, bit0-of (a .address))
+    ∙ simp (sym (after-odd-even .odd-even .ensures) ∙ c .enum-told2 .given .1, bit0-of (a .address))
 
 pub selected-plane-spec : {M : Type 1} → statement M
 selected-plane-spec =

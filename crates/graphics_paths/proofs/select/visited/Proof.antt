@@ -20,17 +20,22 @@ enum-told-2 c = search needs
 returns : tie.Need-returns
 unfolding ofBits visits
 returns c =
-    simp (sym (c .before .before .odd-even .ensures) ∙ c .enum-told .given .1)
+    let after-odd-even : tie.After-odd-even = search needs in
+    simp (sym (after-odd-even .odd-even .ensures) ∙ c .enum-told .given .1)
 
 returns-2 : tie.Need-returns-2
 unfolding ofBits visits
 returns-2 c =
-    simp (sym (c .before .before .before .odd-even .ensures) ∙ c .before .enum-told2 .given .1, eq-eqb _ _ (sym (bit0-is (c .before .before .before .before .args .address)) ∙ c .if1 .taken))
+    let after-odd-even : tie.After-odd-even = search needs in
+    let start : tie.Start = search needs in
+    simp (sym (after-odd-even .odd-even .ensures) ∙ c .before .enum-told2 .given .1, eq-eqb _ _ (sym (bit0-is (start .args .address)) ∙ c .if1 .taken))
 
 returns-3 : tie.Need-returns-3
 unfolding ofBits visits
 returns-3 c =
-    simp (sym (c .before .before .before .odd-even .ensures) ∙ c .before .enum-told2 .given .1, ne-eqb _ _ (λ e. c .if1 .left (bit0-is (c .before .before .before .before .args .address) ∙ e)))
+    let after-odd-even : tie.After-odd-even = search needs in
+    let start : tie.Start = search needs in
+    simp (sym (after-odd-even .odd-even .ensures) ∙ c .before .enum-told2 .given .1, ne-eqb _ _ (λ e. c .if1 .left (bit0-is (start .args .address) ∙ e)))
 
 pub visited-spec : {M : Type 1} → statement M
 visited-spec =

@@ -24,7 +24,9 @@ is-chain4-requires c κs = search needs
 returns-2 : tie.Need-returns-2
 unfolding graphicsStep gcNumberOf gcValue gcNext
 returns-2 c =
-    simp (sym (c .before .before .before .fits-gc .ensures) ∙ not-false _ (c .before .before .if1 .left), c .is-chain4 .ensures, c .before .shift-mode .ensures)
+    let else1 : tie.Else1 = search needs in
+    let after-fits-gc : tie.After-fits-gc = search needs in
+    simp (sym (after-fits-gc .fits-gc .ensures) ∙ not-false _ (else1 .if1 .left), c .is-chain4 .ensures, c .before .shift-mode .ensures)
 
 pub chain4-spec : {M : Type 1} → statement M
 chain4-spec =

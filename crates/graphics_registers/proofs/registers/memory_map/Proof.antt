@@ -21,7 +21,8 @@ memory-map-requires c κs = search needs
 returns-2 : tie.Need-returns-2
 unfolding graphicsStep gcNumberOf gcValue gcNext
 returns-2 c =
-    simp (sym (c .before .before .fits-gc .ensures) ∙ not-false _ (c .before .if1 .left), c .memory-map .ensures)
+    let after-fits-gc : tie.After-fits-gc = search needs in
+    simp (sym (after-fits-gc .fits-gc .ensures) ∙ not-false _ (c .before .if1 .left), c .memory-map .ensures)
 
 pub memory-map-spec : {M : Type 1} → statement M
 memory-map-spec = tie.close (tie.spec fits-gc-requires returns memory-map-requires returns-2)

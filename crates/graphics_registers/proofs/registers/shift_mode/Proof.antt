@@ -21,7 +21,8 @@ shift-mode-requires c κs = search needs
 returns-2 : tie.Need-returns-2
 unfolding graphicsStep gcNumberOf gcValue gcNext
 returns-2 c =
-    simp (sym (c .before .before .fits-gc .ensures) ∙ not-false _ (c .before .if1 .left), c .shift-mode .ensures)
+    let after-fits-gc : tie.After-fits-gc = search needs in
+    simp (sym (after-fits-gc .fits-gc .ensures) ∙ not-false _ (c .before .if1 .left), c .shift-mode .ensures)
 
 pub shift-mode-spec : {M : Type 1} → statement M
 shift-mode-spec = tie.close (tie.spec fits-gc-requires returns shift-mode-requires returns-2)

@@ -35,17 +35,20 @@ enum-told-9 c = search needs
 returns : tie.Need-returns
 unfolding withData keeps
 returns c =
-    rw (c .enum-told .given .1, and-mask (c .before .before .args .byte) 4)
+    let start : tie.Start = search needs in
+    rw (c .enum-told .given .1, and-mask (start .args .byte) 4)
 
 returns-2 : tie.Need-returns-2
 unfolding withData keeps
 returns-2 c =
-    rw (c .enum-told2 .given .1, and-mask (c .before .before .args .byte) 4)
+    let start : tie.Start = search needs in
+    rw (c .enum-told2 .given .1, and-mask (start .args .byte) 4)
 
 returns-3 : tie.Need-returns-3
 unfolding withData keeps
 returns-3 c =
-    rw (c .enum-told3 .given .1, and-mask (c .before .before .args .byte) 4)
+    let start : tie.Start = search needs in
+    rw (c .enum-told3 .given .1, and-mask (start .args .byte) 4)
 
 returns-4 : tie.Need-returns-4
 unfolding withData keeps
@@ -55,7 +58,8 @@ returns-4 c =
 returns-5 : tie.Need-returns-5
 unfolding withData keeps
 returns-5 c =
-    rw (c .enum-told5 .given .1, and-mask (c .before .before .args .byte) 2)
+    let start : tie.Start = search needs in
+    rw (c .enum-told5 .given .1, and-mask (start .args .byte) 2)
 
 returns-6 : tie.Need-returns-6
 unfolding withData keeps
@@ -70,7 +74,8 @@ returns-7 c =
 returns-8 : tie.Need-returns-8
 unfolding withData keeps
 returns-8 c =
-    rw (c .enum-told8 .given .1, and-mask (c .before .before .args .byte) 4)
+    let start : tie.Start = search needs in
+    rw (c .enum-told8 .given .1, and-mask (start .args .byte) 4)
 
 returns-9 : tie.Need-returns-9
 unfolding withData keeps

@@ -24,7 +24,9 @@ port-done-requires c κs = search needs
 returns-2 : tie.Need-returns-2
 unfolding graphicsStep gcNumberOf gcValue gcNext
 returns-2 c =
-    c .port-done .ensures ∙ simp (sym (c .before .before .before .fits-gc .ensures) ∙ not-false _ (c .before .before .if1 .left), c .before .with-address .ensures)
+    let else1 : tie.Else1 = search needs in
+    let after-fits-gc : tie.After-fits-gc = search needs in
+    c .port-done .ensures ∙ simp (sym (after-fits-gc .fits-gc .ensures) ∙ not-false _ (else1 .if1 .left), c .before .with-address .ensures)
 
 pub write-address-spec : {M : Type 1} → statement M
 write-address-spec =

@@ -21,9 +21,10 @@ mask-requires c κs = search needs
 returns : tie.Need-returns
 unfolding storesTo stores maskOf
 returns c =
-    let x = c .before .before .args in
-    ap₂ bitAnd (c .before .visited .ensures) (c .mask .ensures ∙ ap (λ (b : Bool). maskOf (x .seq) (x .at) b) (c .before .before .pre .1))
-    ∙ tests-shared (visits (x .registers) (x .address)) (inMask (x .seq) (x .at) (a0 (x .address)))
+    let start : tie.Start = search needs in
+    let x = start .args in
+    ap₂ bitAnd (c .before .visited .ensures) (c .mask .ensures ∙ ap (λ (b : Bool). maskOf (x .seq) (x .at) b) (start .pre .1)) ∙ tests-shared (visits (x .registers) (x .address))
+    (inMask (x .seq) (x .at) (a0 (x .address)))
 
 pub stored-planes-spec : {M : Type 1} → statement M
 stored-planes-spec = tie.close (tie.spec visited-requires mask-requires returns)

@@ -21,7 +21,9 @@ abbrev μ-loop : tie.MeasureT-loop
 
 loop-holds : tie.Need-loop-holds Inv-loop μ-loop
 loop-holds c =
-    (omega arith, (refl, (c .before .before .before .before .before .pre .0, sym (laid-none (c .before .before .before .before .before .args .at) (λ p. isOne (bit p (c .before .before .before .before .before .args .planes))) (latch (c .before .before .before .before .before .args .bytes)) (mem (c .before .before .before .before .before .args .p0 .now) (c .before .before .before .before .before .args .p1 .now) (c .before .before .before .before .before .args .p2 .now) (c .before .before .before .before .before .args .p3 .now) (c .before .before .before .before .before .args .picture .now))))))
+    let start : tie.Start Inv-loop μ-loop = search needs in
+    let m = mem (start .args .p0 .now) (start .args .p1 .now) (start .args .p2 .now) (start .args .p3 .now) (start .args .picture .now) in
+    (omega arith, (refl, (start .pre .0, sym (laid-none (start .args .at) (λ p. isOne (bit p (start .args .planes))) (latch (start .args .bytes)) m))))
 
 visit-plane-requires : tie.Need-visit-plane-requires Inv-loop μ-loop
 visit-plane-requires c κs =
@@ -37,8 +39,21 @@ loop-less c =
 
 loop-again : tie.Need-loop-again Inv-loop μ-loop
 loop-again c =
-    let a = c .before .before .before .before .before .before .before .before .before .before .before .before .before .before .before .before .before .before .before .before .args in
-    (omega arith, (omega arith, (omega arith, c .before .before .before .before .before .before .before .before .visit-plane .ensures ∙ turn (a .at) (λ p. isOne (bit p (a .planes))) (latch (a .bytes)) (mem (a .p0 .now) (a .p1 .now) (a .p2 .now) (a .p3 .now) (a .picture .now)) _ (c .before .before .before .before .before .before .before .before .before .before .before .before .before .before .loop .plane) (c .before .before .before .before .before .before .before .before .before .before .before .before .before .loop-test .taken) (c .before .before .before .before .before .before .before .before .before .before .before .before .before .before .loop .inv .1 .1 .1))))
+    let after-visit-plane : tie.After-visit-plane Inv-loop μ-loop = search needs in
+    let in-loop : tie.In-loop Inv-loop μ-loop = search needs in
+    let at-loop : tie.At-loop Inv-loop μ-loop = search needs in
+    let start : tie.Start Inv-loop μ-loop = search needs in
+    let a = start .args in
+    let m = mem (a .p0 .now) (a .p1 .now) (a .p2 .now) (a .p3 .now) (a .picture .now) in (
+      omega arith,
+      (
+        omega arith,
+        (
+          omega arith,
+          after-visit-plane .visit-plane .ensures ∙ turn (a .at) (λ p. isOne (bit p (a .planes))) (latch (a .bytes)) m _ (at-loop .loop .plane) (in-loop .loop-test .taken) (at-loop .loop .inv .1 .1 .1),
+        ),
+      ),
+    )
 
 same-length : tie.Need-same-length Inv-loop μ-loop
 same-length c =
@@ -58,9 +73,11 @@ same-length-4 c =
 
 returns : tie.Need-returns Inv-loop μ-loop
 returns c =
-    let a = c .before .before .before .before .before .before .before .args in
+    let start : tie.Start Inv-loop μ-loop = search needs in
+    let a = start .args in
+    let m = mem (a .p0 .now) (a .p1 .now) (a .p2 .now) (a .p3 .now) (a .picture .now) in
     let e : c .before .loop .plane ≡ 4 = omega arith in
-    (rw e at (c .before .loop .inv .1 .1 .1)) ∙ laid-all (a .at) (λ p. isOne (bit p (a .planes))) (latch (a .bytes)) (mem (a .p0 .now) (a .p1 .now) (a .p2 .now) (a .p3 .now) (a .picture .now))
+    (rw e at (c .before .loop .inv .1 .1 .1)) ∙ laid-all (a .at) (λ p. isOne (bit p (a .planes))) (latch (a .bytes)) m
 
 pub visit-spec : {M : Type 1} → statement M
 visit-spec =

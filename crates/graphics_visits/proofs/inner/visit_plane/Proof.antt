@@ -33,12 +33,16 @@ same-length-4 c = search needs
 
 returns : tie.Need-returns
 returns c =
-    let e : bit (c .before .before .before .before .before .before .before .before .before .before .before .before .before .before .before .before .before .before .before .args .plane) (c .before .before .before .before .before .before .before .before .before .before .before .before .before .before .before .before .before .before .before .args .planes) ≡ 1 = bit-set _ _ (omega arith) (c .before .before .before .before .before .before .before .before .before .before .before .before .before .if1 .taken) in
-    simp e (c .before .before .before .before .before .before .before .before .lay .ensures)
+    let after-lay : tie.After-lay = search needs in
+    let then1 : tie.Then1 = search needs in
+    let start : tie.Start = search needs in
+    let e : bit (start .args .plane) (start .args .planes) ≡ 1 = bit-set _ _ (omega arith) (then1 .if1 .taken) in
+    simp e (after-lay .lay .ensures)
 
 returns-2 : tie.Need-returns-2
 returns-2 c =
-    let e : bit (c .before .before .before .before .before .before .args .plane) (c .before .before .before .before .before .before .args .planes) ≡ 0 = bit-clear _ _ (omega arith) (c .if1 .left) in
+    let start : tie.Start = search needs in
+    let e : bit (start .args .plane) (start .args .planes) ≡ 0 = bit-clear _ _ (omega arith) (c .if1 .left) in
     simp e
 
 pub visit-plane-spec : {M : Type 1} → statement M

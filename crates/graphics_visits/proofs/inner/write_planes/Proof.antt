@@ -2,11 +2,13 @@
 use native.Mathlib.Omega.{arith}
 use mathlib.Core.List.{[], _∷_}
 use mathlib.Core.Logic.{inl, inr}
-use mathlib.Core.Path.{ap, _∙_}
+use mathlib.Core.Path.{_≡_, ap, _∙_}
 use borrow.Author.Needs.{needs}
 use Rattle.types.specs.declared.gc.WriteMode.{WriteMode}
+use Rattle.bits.specs.Bit.{bit, isOne}
+use Rattle.machine.specs.Graphics.{writeMode}
 use Rattle.machine.specs.Calls.{writeDeed}
-use Rattle.machine.specs.Deeds.{remade, memoryAfter}
+use Rattle.machine.specs.Deeds.{latch, laid, remade, memoryAfter}
 use Rattle.machine.specs.Memory.{mem}
 use Rattle.sequencer_masks.proofs.Laws.{stored-at-le}
 use Rattle.graphics_visits.proofs.Planes.{write-counts, write-none, write-some}
@@ -14,11 +16,18 @@ use types.Run.{OneOf}
 use Rattle.graphics_visits.proofs.inner.write_planes.Statement.{statement}
 use Rattle.graphics_visits.proofs.inner.write_planes.Tie as tie
 
-write-mode-requires : tie.Need-write-mode-requires
-write-mode-requires c κs = search needs
+-- stations before `visit`: a search from the walk's end does not go back to them
+start-of : tie.After-visit → tie.Start
+start-of after-visit = search needs
 
-enum-told : tie.Need-enum-told
-enum-told c = search needs
+planes-of : tie.After-visit → tie.After-stored-planes
+planes-of after-visit = search needs
+
+bytes-of : tie.After-visit → tie.After-plane-bytes
+bytes-of after-visit = search needs
+
+place-of : tie.After-visit → tie.After-stored-at
+place-of after-visit = search needs
 
 -- the keys of modes 0, 1 and 2 are not mode 3's
 not-3 : OneOf (0 ∷ 1 ∷ 2 ∷ []) 3 → ⊥
@@ -26,22 +35,54 @@ not-3 (inl e) = omega arith
 not-3 (inr (inl e)) = omega arith
 not-3 (inr (inr e)) = omega arith
 
+-- where some plane is stored, the bytes laid and the pixels remade are the mode's deed
+some-stored : (after-visit : tie.After-visit) → let a = start-of after-visit .args in
+    let m = mem (a .p0 .now) (a .p1 .now) (a .p2 .now) (a .p3 .now) (a .picture .now) in
+    let place = place-of after-visit .stored-at .result in
+    let bytes = bytes-of after-visit .plane-bytes .result in
+    remade place (laid place (λ p. isOne (bit p (planes-of after-visit .stored-planes .result))) (latch bytes) m)
+    ≡ memoryAfter (writeDeed (writeMode (a .gc .registers)) (a .gc .registers) (a .seq) (a .address) (a .at) (a .byte)) (a .gc .latches) m
+unfolding start-of planes-of bytes-of place-of
+some-stored after-visit =
+    let else1 : tie.Else1 = search needs in
+    let at-match-keys2 : tie.At-match-keys2 = search needs in
+    let after-write-mode : tie.After-write-mode = search needs in
+    let a = start-of after-visit .args in
+    let m = mem (a .p0 .now) (a .p1 .now) (a .p2 .now) (a .p3 .now) (a .picture .now) in
+    let r = a .gc .registers in
+    write-some (after-write-mode .write-mode .result) r (a .seq) (a .address) (a .at) (a .byte) (a .gc .latches) m _ _ _
+    (λ e. not-3 (rw e at (at-match-keys2 .match .keys2))) (planes-of after-visit .stored-planes .ensures) (else1 .if1 .left)
+    (bytes-of after-visit .plane-bytes .ensures) (place-of after-visit .stored-at .ensures)
+    ∙ ap (λ (w : WriteMode). memoryAfter (writeDeed w r (a .seq) (a .address) (a .at) (a .byte)) (a .gc .latches) m) (after-write-mode .write-mode .ensures)
+
+write-mode-requires : tie.Need-write-mode-requires
+write-mode-requires c κs = search needs
+
+enum-told : tie.Need-enum-told
+enum-told c = search needs
+
 returns : tie.Need-returns
 returns c =
-    let a = c .before .before .before .before .before .before .before .before .before .args in
+    let after-write-mode : tie.After-write-mode = search needs in
+    let start : tie.Start = search needs in
+    let a = start .args in
+    let m = mem (a .p0 .now) (a .p1 .now) (a .p2 .now) (a .p3 .now) (a .picture .now) in
     let r = a .gc .registers in
-    write-counts (c .before .before .write-mode .result) r (a .seq) (a .address) (a .at) (a .byte) (a .gc .latches) (mem (a .p0 .now) (a .p1 .now) (a .p2 .now) (a .p3 .now) (a .picture .now)) (c .enum-told .given .1)
-    ∙ ap (λ (w : WriteMode). memoryAfter (writeDeed w r (a .seq) (a .address) (a .at) (a .byte)) (a .gc .latches) (mem (a .p0 .now) (a .p1 .now) (a .p2 .now) (a .p3 .now) (a .picture .now))) (c .before .before .write-mode .ensures)
+    write-counts (after-write-mode .write-mode .result) r (a .seq) (a .address) (a .at) (a .byte) (a .gc .latches) m (c .enum-told .given .1)
+    ∙ ap (λ (w : WriteMode). memoryAfter (writeDeed w r (a .seq) (a .address) (a .at) (a .byte)) (a .gc .latches) m) (after-write-mode .write-mode .ensures)
 
 stored-planes-requires : tie.Need-stored-planes-requires
 stored-planes-requires c κs = search needs
 
 returns-2 : tie.Need-returns-2
 returns-2 c =
-    let a = c .before .before .before .before .before .before .before .before .before .before .args in
+    let after-write-mode : tie.After-write-mode = search needs in
+    let start : tie.Start = search needs in
+    let a = start .args in
+    let m = mem (a .p0 .now) (a .p1 .now) (a .p2 .now) (a .p3 .now) (a .picture .now) in
     let r = a .gc .registers in
-    write-none (c .before .before .before .write-mode .result) r (a .seq) (a .address) (a .at) (a .byte) (a .gc .latches) (mem (a .p0 .now) (a .p1 .now) (a .p2 .now) (a .p3 .now) (a .picture .now)) _ (c .before .stored-planes .ensures) (c .if1 .taken)
-    ∙ ap (λ (w : WriteMode). memoryAfter (writeDeed w r (a .seq) (a .address) (a .at) (a .byte)) (a .gc .latches) (mem (a .p0 .now) (a .p1 .now) (a .p2 .now) (a .p3 .now) (a .picture .now))) (c .before .before .before .write-mode .ensures)
+    write-none (after-write-mode .write-mode .result) r (a .seq) (a .address) (a .at) (a .byte) (a .gc .latches) m _ (c .before .stored-planes .ensures) (c .if1 .taken)
+    ∙ ap (λ (w : WriteMode). memoryAfter (writeDeed w r (a .seq) (a .address) (a .at) (a .byte)) (a .gc .latches) m) (after-write-mode .write-mode .ensures)
 
 plane-bytes-requires : tie.Need-plane-bytes-requires
 plane-bytes-requires c κs = search needs
@@ -51,15 +92,19 @@ stored-at-requires c κs = search needs
 
 visit-requires : tie.Need-visit-requires
 visit-requires c κs =
-    let a = c .before .before .before .before .before .before .before .before .before .before .before .before .before .before .before .before .before .before .args in
+    let after-stored-at : tie.After-stored-at = search needs in
+    let start : tie.Start = search needs in
+    let a = start .args in
     let h = stored-at-le (a .seq) (a .at) in
-    omega (arith, c .before .before .before .before .before .stored-at .ensures, c .before .before .before .before .before .before .before .before .before .before .before .before .before .before .before .before .before .before .pre .0, c .before .before .before .before .before .before .before .before .before .before .before .before .before .before .before .before .before .before .pre .1 .0)
+    omega (arith, after-stored-at .stored-at .ensures, start .pre .0, start .pre .1 .0)
 
 remake-requires : tie.Need-remake-requires
+unfolding start-of place-of
 remake-requires c κs =
-    let a = c .before .before .before .before .before .before .before .before .before .before .before .before .before .before .before .before .before .before .before .before .before .before .before .before .before .before .before .before .before .before .before .before .args in
-    let h = stored-at-le (a .seq) (a .at) in
-    omega (arith, c .before .before .before .before .before .before .before .before .before .before .before .before .before .before .before .before .before .before .before .stored-at .ensures, c .before .before .before .before .before .before .before .before .before .before .before .before .before .before .before .before .before .before .before .before .before .before .before .before .before .before .before .before .before .before .before .before .pre .0, c .before .before .before .before .before .before .before .before .before .before .before .before .before .before .before .before .before .before .before .before .before .before .before .before .before .before .before .before .before .before .before .before .pre .1 .0, c .before .before .before .before .before .before .before .before .before .before .before .before .before .visit .kept)
+    let after-visit : tie.After-visit = search needs in
+    let start = start-of after-visit in
+    let h = stored-at-le (start .args .seq) (start .args .at) in
+    omega (arith, place-of after-visit .stored-at .ensures, start .pre .0, start .pre .1 .0, after-visit .visit .kept)
 
 same-length : tie.Need-same-length
 same-length c = search needs
@@ -77,12 +122,11 @@ same-length-5 : tie.Need-same-length-5
 same-length-5 c = search needs
 
 returns-3 : tie.Need-returns-3
+unfolding start-of planes-of bytes-of place-of
 returns-3 c =
-    let a = c .before .before .before .before .before .before .before .before .before .before .before .before .before .before .before .before .before .before .before .before .before .before .before .before .before .before .before .before .before .before .before .before .before .before .before .args in
-    let r = a .gc .registers in
-    c .before .before .remake .ensures ∙ ap (remade (c .before .before .before .before .before .before .before .before .before .before .before .before .before .before .before .before .before .before .before .before .before .before .stored-at .result)) (c .before .before .before .before .before .before .before .before .before .before .before .before .before .before .before .before .visit .ensures)
-    ∙ write-some (c .before .before .before .before .before .before .before .before .before .before .before .before .before .before .before .before .before .before .before .before .before .before .before .before .before .before .before .before .write-mode .result) r (a .seq) (a .address) (a .at) (a .byte) (a .gc .latches) (mem (a .p0 .now) (a .p1 .now) (a .p2 .now) (a .p3 .now) (a .picture .now)) _ _ _ (λ e. not-3 (rw e at (c .before .before .before .before .before .before .before .before .before .before .before .before .before .before .before .before .before .before .before .before .before .before .before .before .before .before .before .match .keys2))) (c .before .before .before .before .before .before .before .before .before .before .before .before .before .before .before .before .before .before .before .before .before .before .before .before .before .before .stored-planes .ensures) (c .before .before .before .before .before .before .before .before .before .before .before .before .before .before .before .before .before .before .before .before .before .before .before .before .before .if1 .left) (c .before .before .before .before .before .before .before .before .before .before .before .before .before .before .before .before .before .before .before .before .before .before .before .plane-bytes .ensures) (c .before .before .before .before .before .before .before .before .before .before .before .before .before .before .before .before .before .before .before .before .before .before .stored-at .ensures)
-    ∙ ap (λ (w : WriteMode). memoryAfter (writeDeed w r (a .seq) (a .address) (a .at) (a .byte)) (a .gc .latches) (mem (a .p0 .now) (a .p1 .now) (a .p2 .now) (a .p3 .now) (a .picture .now))) (c .before .before .before .before .before .before .before .before .before .before .before .before .before .before .before .before .before .before .before .before .before .before .before .before .before .before .before .before .write-mode .ensures)
+    let after-remake : tie.After-remake = search needs in
+    let after-visit : tie.After-visit = search needs in
+    after-remake .remake .ensures ∙ ap (remade (place-of after-visit .stored-at .result)) (after-visit .visit .ensures) ∙ some-stored after-visit
 
 pub write-planes-spec : {M : Type 1} → statement M
 write-planes-spec =

@@ -20,10 +20,14 @@ refused-requires : tie.Need-refused-requires
 refused-requires c κs = search needs
 
 returns : tie.Need-returns
-returns c = rw (c .before .before .enum-told .given .1, c .before .done .ensures, c .of-sequencer .ensures)
+returns c =
+    let after-enum-told : tie.After-enum-told = search needs in
+    rw (after-enum-told .enum-told .given .1, c .before .done .ensures, c .of-sequencer .ensures)
 
 returns-2 : tie.Need-returns-2
-returns-2 c = rw (c .before .before .answer .given .1, c .refused .ensures, left-refused _ _ _)
+returns-2 c =
+    let after-answer : tie.After-answer = search needs in
+    rw (after-answer .answer .given .1, c .refused .ensures, left-refused _ _ _)
 
 pub of-sequencer-done-spec : {M : Type 1} → statement M
 of-sequencer-done-spec =

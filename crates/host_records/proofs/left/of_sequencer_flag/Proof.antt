@@ -23,10 +23,14 @@ refused-requires : tie.Need-refused-requires
 refused-requires c κs = search needs
 
 returns : tie.Need-returns
-returns c = rw (c .before .before .before .answer .given .1, c .before .given .ensures, c .of-sequencer .ensures)
+returns c =
+    let after-answer : tie.After-answer = search needs in
+    rw (after-answer .answer .given .1, c .before .given .ensures, c .of-sequencer .ensures)
 
 returns-2 : tie.Need-returns-2
-returns-2 c = rw (c .before .before .answer2 .given .1, c .refused .ensures, left-refused _ _ _)
+returns-2 c =
+    let after-answer2 : tie.After-answer2 = search needs in
+    rw (after-answer2 .answer2 .given .1, c .refused .ensures, left-refused _ _ _)
 
 pub of-sequencer-flag-spec : {M : Type 1} → statement M
 of-sequencer-flag-spec =

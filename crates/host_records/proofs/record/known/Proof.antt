@@ -17,7 +17,8 @@ known-sequencer-requires c κs = search needs
 
 returns-2 : tie.Need-returns-2
 returns-2 c =
-    c .known-sequencer .ensures ∙ simp (sym (c .before .before .known-controller .ensures) ∙ not-false _ (c .before .if1 .left))
+    let after-known-controller : tie.After-known-controller = search needs in
+    c .known-sequencer .ensures ∙ simp (sym (after-known-controller .known-controller .ensures) ∙ not-false _ (c .before .if1 .left))
 
 pub known-spec : {M : Type 1} → statement M
 known-spec =

@@ -16,14 +16,18 @@ returns c =
 
 returns-2 : tie.Need-returns-2
 returns-2 c =
-    simp (not-false (c .before .before .args .fits) (c .before .if1 .left), not-true (c .before .before .args .shaped) (c .if2 .taken))
+    let start : tie.Start = search needs in
+    simp (not-false (start .args .fits) (c .before .if1 .left), not-true (start .args .shaped) (c .if2 .taken))
 
 in-window-requires : tie.Need-in-window-requires
 in-window-requires c κs = search needs
 
 returns-3 : tie.Need-returns-3
 returns-3 c =
-    simp (not-false (c .before .before .before .before .args .fits) (c .before .before .before .if1 .left), not-false (c .before .before .before .before .args .shaped) (c .before .before .if2 .left), sym (c .before .in-window .ensures) ∙ not-true _ (c .if3 .taken))
+    let else2 : tie.Else2 = search needs in
+    let else1 : tie.Else1 = search needs in
+    let start : tie.Start = search needs in
+    simp (not-false (start .args .fits) (else1 .if1 .left), not-false (start .args .shaped) (else2 .if2 .left), sym (c .before .in-window .ensures) ∙ not-true _ (c .if3 .taken))
 
 mapped-requires : tie.Need-mapped-requires
 mapped-requires c κs =
@@ -31,15 +35,41 @@ mapped-requires c κs =
 
 returns-4 : tie.Need-returns-4
 returns-4 c =
-    let a = c .before .before .before .before .before .before .args in
-    let e : bitAnd (c .before .mapped .result) 65535 ≡ mapped (a .map) (a .chain) (a .address) (a .page) % 65536 = and-mask (c .before .mapped .result) 16 ∙ ap (λ (n : ℕ). n % 65536) (c .before .mapped .ensures) in
-    simp (not-false (c .before .before .before .before .before .before .args .fits) (c .before .before .before .before .before .if1 .left), not-false (c .before .before .before .before .before .before .args .shaped) (c .before .before .before .before .if2 .left), sym (c .before .before .before .in-window .ensures) ∙ not-false _ (c .before .before .if3 .left), le-ltb (mapped (a .map) (a .chain) (a .address) (a .page) % 65536) (a .n) (omega (arith, e, c .if4 .taken)))
+    let after-mapped : tie.After-mapped = search needs in
+    let else3 : tie.Else3 = search needs in
+    let after-in-window : tie.After-in-window = search needs in
+    let else2 : tie.Else2 = search needs in
+    let else1 : tie.Else1 = search needs in
+    let start : tie.Start = search needs in
+    let a = start .args in
+    let e : bitAnd (after-mapped .mapped .result) 65535 ≡ mapped (a .map) (a .chain) (a .address) (a .page) % 65536
+    = and-mask (after-mapped .mapped .result) 16 ∙ ap (λ (n : ℕ). n % 65536) (after-mapped .mapped .ensures) in
+    simp (
+      not-false (start .args .fits) (else1 .if1 .left),
+      not-false (start .args .shaped) (else2 .if2 .left),
+      sym (after-in-window .in-window .ensures) ∙ not-false _ (else3 .if3 .left),
+      le-ltb (mapped (a .map) (a .chain) (a .address) (a .page) % 65536) (a .n) (omega (arith, e, c .if4 .taken)),
+    )
 
 returns-5 : tie.Need-returns-5
 returns-5 c =
-    let a = c .before .before .before .before .before .before .args in
-    let e : bitAnd (c .before .mapped .result) 65535 ≡ mapped (a .map) (a .chain) (a .address) (a .page) % 65536 = and-mask (c .before .mapped .result) 16 ∙ ap (λ (n : ℕ). n % 65536) (c .before .mapped .ensures) in
-    simp (not-false (c .before .before .before .before .before .before .args .fits) (c .before .before .before .before .before .if1 .left), not-false (c .before .before .before .before .before .before .args .shaped) (c .before .before .before .before .if2 .left), sym (c .before .before .before .in-window .ensures) ∙ not-false _ (c .before .before .if3 .left), lt-ltb (mapped (a .map) (a .chain) (a .address) (a .page) % 65536) (a .n) (omega (arith, e, c .if4 .left)), e, bit0-is (c .before .before .before .before .before .before .args .address))
+    let after-mapped : tie.After-mapped = search needs in
+    let else3 : tie.Else3 = search needs in
+    let after-in-window : tie.After-in-window = search needs in
+    let else2 : tie.Else2 = search needs in
+    let else1 : tie.Else1 = search needs in
+    let start : tie.Start = search needs in
+    let a = start .args in
+    let e : bitAnd (after-mapped .mapped .result) 65535 ≡ mapped (a .map) (a .chain) (a .address) (a .page) % 65536
+    = and-mask (after-mapped .mapped .result) 16 ∙ ap (λ (n : ℕ). n % 65536) (after-mapped .mapped .ensures) in
+    simp (
+      not-false (start .args .fits) (else1 .if1 .left),
+      not-false (start .args .shaped) (else2 .if2 .left),
+      sym (after-in-window .in-window .ensures) ∙ not-false _ (else3 .if3 .left),
+      lt-ltb (mapped (a .map) (a .chain) (a .address) (a .page) % 65536) (a .n) (omega (arith, e, c .if4 .left)),
+      e,
+      bit0-is (start .args .address),
+    )
 
 pub judge-address-spec : {M : Type 1} → statement M
 judge-address-spec =

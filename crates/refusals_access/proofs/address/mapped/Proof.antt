@@ -16,7 +16,8 @@ enum-told-2 c = search needs
 
 mapped-64k-requires : tie.Need-mapped-64k-requires
 mapped-64k-requires c κs =
-    rw (c .enum-told2 .given .1) at (c .before .before .pre)
+    let start : tie.Start = search needs in
+    rw (c .enum-told2 .given .1) at (start .pre)
 
 enum-told-3 : tie.Need-enum-told-3
 enum-told-3 c = search needs
@@ -26,7 +27,8 @@ enum-told-4 c = search needs
 
 sub-result : tie.Need-sub-result
 sub-result c =
-    above-b8000 _ (rw (c .enum-told4 .given .1) at (c .before .before .pre))
+    let start : tie.Start = search needs in
+    above-b8000 _ (rw (c .enum-told4 .given .1) at (start .pre))
 
 returns : tie.Need-returns
 returns c =

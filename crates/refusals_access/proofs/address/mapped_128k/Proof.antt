@@ -5,6 +5,7 @@ use lib.Bits.{and-le-r}
 use borrow.Author.Tests.{lt-ltb, le-ltb, not-true, not-false}
 use Rattle.bits.proofs.Bitwise.{shr-and-one}
 use Rattle.machine.specs.Address.{mapped}
+use borrow.Author.Needs.{needs}
 use Rattle.refusals_access.proofs.address.mapped_128k.Statement.{statement}
 use Rattle.refusals_access.proofs.address.mapped_128k.Tie as tie
 
@@ -15,21 +16,27 @@ returns c =
 
 with-bit0-requires : tie.Need-with-bit0-requires
 with-bit0-requires c κs =
-    and-le-r (c .before .before .args .address / 65536) 1
+    let start : tie.Start = search needs in
+    and-le-r (start .args .address / 65536) 1
 
 returns-2 : tie.Need-returns-2
 unfolding mapped
 returns-2 c =
-    c .with-bit0 .ensures ∙ simp (not-false (c .before .before .before .args .chain) (c .before .before .if1 .left), lt-ltb _ _ (c .before .if2 .taken), shr-and-one (c .before .before .before .args .address) 16)
+    let else1 : tie.Else1 = search needs in
+    let start : tie.Start = search needs in
+    c .with-bit0 .ensures ∙ simp (not-false (start .args .chain) (else1 .if1 .left), lt-ltb _ _ (c .before .if2 .taken), shr-and-one (start .args .address) 16)
 
 with-bit0-requires-2 : tie.Need-with-bit0-requires-2
 with-bit0-requires-2 c κs =
-    and-le-r (c .before .before .args .address / 16384) 1
+    let start : tie.Start = search needs in
+    and-le-r (start .args .address / 16384) 1
 
 returns-3 : tie.Need-returns-3
 unfolding mapped
 returns-3 c =
-    c .with-bit02 .ensures ∙ simp (not-false (c .before .before .before .args .chain) (c .before .before .if1 .left), le-ltb _ _ (c .before .if2 .left), shr-and-one (c .before .before .before .args .address) 14)
+    let else1 : tie.Else1 = search needs in
+    let start : tie.Start = search needs in
+    c .with-bit02 .ensures ∙ simp (not-false (start .args .chain) (else1 .if1 .left), le-ltb _ _ (c .before .if2 .left), shr-and-one (start .args .address) 14)
 
 pub mapped-128k-spec : {M : Type 1} → statement M
 mapped-128k-spec =

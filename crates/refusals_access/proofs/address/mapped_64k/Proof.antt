@@ -22,7 +22,9 @@ with-bit0-requires c κs = search needs
 returns-2 : tie.Need-returns-2
 unfolding mapped
 returns-2 c =
-    c .with-bit0 .ensures ∙ simp (not-false (c .before .before .before .args .chain) (c .before .before .if1 .left), c .before .if2 .taken)
+    let else1 : tie.Else1 = search needs in
+    let start : tie.Start = search needs in
+    c .with-bit0 .ensures ∙ simp (not-false (start .args .chain) (else1 .if1 .left), c .before .if2 .taken)
 
 with-bit0-requires-2 : tie.Need-with-bit0-requires-2
 with-bit0-requires-2 c κs = search needs
@@ -30,7 +32,9 @@ with-bit0-requires-2 c κs = search needs
 returns-3 : tie.Need-returns-3
 unfolding mapped
 returns-3 c =
-    c .with-bit02 .ensures ∙ simp (not-false (c .before .before .before .args .chain) (c .before .before .if1 .left), c .before .if2 .left)
+    let else1 : tie.Else1 = search needs in
+    let start : tie.Start = search needs in
+    c .with-bit02 .ensures ∙ simp (not-false (start .args .chain) (else1 .if1 .left), c .before .if2 .left)
 
 pub mapped-64k-spec : {M : Type 1} → statement M
 mapped-64k-spec =

@@ -15,7 +15,9 @@ judge-plane-requires : tie.Need-judge-plane-requires
 judge-plane-requires c κs = search needs
 
 returns-2 : tie.Need-returns-2
-returns-2 c = rw (sym (c .before .before .fits-seq .ensures) ∙ not-false _ (c .before .if1 .left)) (c .judge-plane .ensures)
+returns-2 c =
+    let after-fits-seq : tie.After-fits-seq = search needs in
+    rw (sym (after-fits-seq .fits-seq .ensures) ∙ not-false _ (c .before .if1 .left)) (c .judge-plane .ensures)
 
 pub judge-direct-spec : {M : Type 1} → statement M
 judge-direct-spec = tie.close (tie.spec fits-seq-requires returns judge-plane-requires returns-2)

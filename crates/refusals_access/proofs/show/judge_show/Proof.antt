@@ -20,7 +20,9 @@ shaped-requires c κs = search needs
 returns-2 : tie.Need-returns-2
 unfolding showNumber
 returns-2 c =
-    simp (sym (c .before .before .before .fits-both .ensures) ∙ not-false _ (c .before .before .if1 .left), sym (c .before .shaped .ensures) ∙ not-true _ (c .if2 .taken))
+    let else1 : tie.Else1 = search needs in
+    let after-fits-both : tie.After-fits-both = search needs in
+    simp (sym (after-fits-both .fits-both .ensures) ∙ not-false _ (else1 .if1 .left), sym (c .before .shaped .ensures) ∙ not-true _ (c .if2 .taken))
 
 shift-mode-requires : tie.Need-shift-mode-requires
 shift-mode-requires c κs = search needs
@@ -31,17 +33,50 @@ shows-requires c κs = search needs
 returns-3 : tie.Need-returns-3
 unfolding showNumber
 returns-3 c =
-    simp (sym (c .before .before .before .before .before .before .fits-both .ensures) ∙ not-false _ (c .before .before .before .before .before .if1 .left), sym (c .before .before .before .before .shaped .ensures) ∙ not-false _ (c .before .before .before .if2 .left), sym (c .before .shows .ensures ∙ ap showsIn (c .before .before .shift-mode .ensures)) ∙ not-true _ (c .if3 .taken))
+    let after-shift-mode : tie.After-shift-mode = search needs in
+    let else2 : tie.Else2 = search needs in
+    let after-shaped : tie.After-shaped = search needs in
+    let else1 : tie.Else1 = search needs in
+    let after-fits-both : tie.After-fits-both = search needs in
+    simp (
+      sym (after-fits-both .fits-both .ensures) ∙ not-false _ (else1 .if1 .left),
+      sym (after-shaped .shaped .ensures) ∙ not-false _ (else2 .if2 .left),
+      sym (c .before .shows .ensures ∙ ap showsIn (after-shift-mode .shift-mode .ensures)) ∙ not-true _ (c .if3 .taken),
+    )
 
 returns-4 : tie.Need-returns-4
 unfolding showNumber
 returns-4 c =
-    simp (sym (c .before .before .before .before .before .before .before .before .before .fits-both .ensures) ∙ not-false _ (c .before .before .before .before .before .before .before .before .if1 .left), sym (c .before .before .before .before .before .before .before .shaped .ensures) ∙ not-false _ (c .before .before .before .before .before .before .if2 .left), sym (c .before .before .before .before .shows .ensures ∙ ap showsIn (c .before .before .before .before .before .shift-mode .ensures)) ∙ not-false _ (c .before .before .before .if3 .left), le-ltb _ _ (c .if4 .taken))
+    let else3 : tie.Else3 = search needs in
+    let after-shows : tie.After-shows = search needs in
+    let after-shift-mode : tie.After-shift-mode = search needs in
+    let else2 : tie.Else2 = search needs in
+    let after-shaped : tie.After-shaped = search needs in
+    let else1 : tie.Else1 = search needs in
+    let after-fits-both : tie.After-fits-both = search needs in
+    simp (
+      sym (after-fits-both .fits-both .ensures) ∙ not-false _ (else1 .if1 .left),
+      sym (after-shaped .shaped .ensures) ∙ not-false _ (else2 .if2 .left),
+      sym (after-shows .shows .ensures ∙ ap showsIn (after-shift-mode .shift-mode .ensures)) ∙ not-false _ (else3 .if3 .left),
+      le-ltb _ _ (c .if4 .taken),
+    )
 
 returns-5 : tie.Need-returns-5
 unfolding showNumber
 returns-5 c =
-    simp (sym (c .before .before .before .before .before .before .before .before .before .fits-both .ensures) ∙ not-false _ (c .before .before .before .before .before .before .before .before .if1 .left), sym (c .before .before .before .before .before .before .before .shaped .ensures) ∙ not-false _ (c .before .before .before .before .before .before .if2 .left), sym (c .before .before .before .before .shows .ensures ∙ ap showsIn (c .before .before .before .before .before .shift-mode .ensures)) ∙ not-false _ (c .before .before .before .if3 .left), lt-ltb _ _ (c .if4 .left))
+    let else3 : tie.Else3 = search needs in
+    let after-shows : tie.After-shows = search needs in
+    let after-shift-mode : tie.After-shift-mode = search needs in
+    let else2 : tie.Else2 = search needs in
+    let after-shaped : tie.After-shaped = search needs in
+    let else1 : tie.Else1 = search needs in
+    let after-fits-both : tie.After-fits-both = search needs in
+    simp (
+      sym (after-fits-both .fits-both .ensures) ∙ not-false _ (else1 .if1 .left),
+      sym (after-shaped .shaped .ensures) ∙ not-false _ (else2 .if2 .left),
+      sym (after-shows .shows .ensures ∙ ap showsIn (after-shift-mode .shift-mode .ensures)) ∙ not-false _ (else3 .if3 .left),
+      lt-ltb _ _ (c .if4 .left),
+    )
 
 pub judge-show-spec : {M : Type 1} → statement M
 judge-show-spec =

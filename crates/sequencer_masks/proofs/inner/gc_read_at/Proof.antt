@@ -19,11 +19,15 @@ stored-at-requires c κs = search needs
 
 returns : tie.Need-returns
 unfolding gcReadAt
-returns c = rw (sym (c .before .before .odd-even .ensures) ∙ c .enum-told .given .1)
+returns c =
+    let after-odd-even : tie.After-odd-even = search needs in
+    rw (sym (after-odd-even .odd-even .ensures) ∙ c .enum-told .given .1)
 
 returns-2 : tie.Need-returns-2
 unfolding gcReadAt storedAt
-returns-2 c = rw (sym (c .before .before .before .odd-even .ensures) ∙ c .before .enum-told2 .given .1) (c .stored-at .ensures)
+returns-2 c =
+    let after-odd-even : tie.After-odd-even = search needs in
+    rw (sym (after-odd-even .odd-even .ensures) ∙ c .before .enum-told2 .given .1) (c .stored-at .ensures)
 
 pub gc-read-at-spec : {M : Type 1} → statement M
 gc-read-at-spec =

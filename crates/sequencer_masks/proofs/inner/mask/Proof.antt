@@ -14,10 +14,14 @@ chain-four-requires : tie.Need-chain-four-requires
 chain-four-requires c κs = search needs
 
 cast-result : tie.Need-cast-result
-cast-result c = omega (arith, and-mask (c .before .before .args .offset) 2)
+cast-result c =
+    let start : tie.Start = search needs in
+    omega (arith, and-mask (start .args .offset) 2)
 
 shl-result : tie.Need-shl-result
-shl-result c = omega (arith, and-mask (c .before .before .args .offset) 2)
+shl-result c =
+    let start : tie.Start = search needs in
+    omega (arith, and-mask (start .args .offset) 2)
 
 returns : tie.Need-returns
 returns c = mask-chained _ _ _ (sym (c .before .chain-four .ensures) ∙ c .if1 .taken)
@@ -32,15 +36,25 @@ enum-told-2 : tie.Need-enum-told-2
 enum-told-2 c = search needs
 
 shl-result-2 : tie.Need-shl-result-2
-shl-result-2 c = a0-lt (c .before .before .before .before .before .args .a0)
+shl-result-2 c =
+    let start : tie.Start = search needs in
+    a0-lt (start .args .a0)
 
 returns-2 : tie.Need-returns-2
 returns-2 c =
-    mask-sequential _ _ _ (c .before .before .before .before .before .pre) (sym (c .before .before .before .before .chain-four .ensures) ∙ c .before .before .before .if1 .left) (sym (c .before .before .odd-even .ensures) ∙ c .enum-told .given .1)
+    let after-odd-even : tie.After-odd-even = search needs in
+    let else1 : tie.Else1 = search needs in
+    let after-chain-four : tie.After-chain-four = search needs in
+    let start : tie.Start = search needs in
+    mask-sequential _ _ _ (start .pre) (sym (after-chain-four .chain-four .ensures) ∙ else1 .if1 .left) (sym (after-odd-even .odd-even .ensures) ∙ c .enum-told .given .1)
 
 returns-3 : tie.Need-returns-3
 returns-3 c =
-    mask-odd-even _ _ _ (c .before .before .before .before .before .pre) (sym (c .before .before .before .before .chain-four .ensures) ∙ c .before .before .before .if1 .left) (sym (c .before .before .odd-even .ensures) ∙ c .enum-told2 .given .1)
+    let after-odd-even : tie.After-odd-even = search needs in
+    let else1 : tie.Else1 = search needs in
+    let after-chain-four : tie.After-chain-four = search needs in
+    let start : tie.Start = search needs in
+    mask-odd-even _ _ _ (start .pre) (sym (after-chain-four .chain-four .ensures) ∙ else1 .if1 .left) (sym (after-odd-even .odd-even .ensures) ∙ c .enum-told2 .given .1)
 
 pub mask-spec : {M : Type 1} → statement M
 mask-spec =

@@ -19,7 +19,9 @@ kept-requires c κs = search needs
 
 returns-2 : tie.Need-returns-2
 unfolding sequencerStep seqNumberOf seqValue seqNext
-returns-2 c = simp (sym (c .before .before .fits-seq .ensures) ∙ not-false _ (c .before .if1 .left), c .kept .ensures)
+returns-2 c =
+    let after-fits-seq : tie.After-fits-seq = search needs in
+    simp (sym (after-fits-seq .fits-seq .ensures) ∙ not-false _ (c .before .if1 .left), c .kept .ensures)
 
 pub read-data-spec : {M : Type 1} → statement M
 read-data-spec = tie.close (tie.spec fits-seq-requires returns kept-requires returns-2)

@@ -30,25 +30,40 @@ enum-told-6 c = search needs
 
 returns : tie.Need-returns
 unfolding withSeqData seqKeeps
-returns c = simp (c .enum-told .given .1, data-keeps 2 (c .before .before .args .byte))
+returns c =
+    let start : tie.Start = search needs in
+    simp (c .enum-told .given .1, data-keeps 2 (start .args .byte))
 
 returns-2 : tie.Need-returns-2
 unfolding withSeqData seqKeeps
 returns-2 c =
-    let start = c .before .before .before in
-    rw (c .before .enum-told2 .given .1, c .clocking .ensures .0, c .clocking .ensures .1, data-bit 3 (start .args .byte) (omega arith), data-bit 0 (start .args .byte) (omega arith), and-mask (start .args .byte) 6)
+    let start : tie.Start = search needs in
+    rw (
+      c .before .enum-told2 .given .1,
+      c .clocking .ensures .0,
+      c .clocking .ensures .1,
+      data-bit 3 (start .args .byte) (omega arith),
+      data-bit 0 (start .args .byte) (omega arith),
+      and-mask (start .args .byte) 6,
+    )
 
 returns-3 : tie.Need-returns-3
 unfolding withSeqData seqKeeps
-returns-3 c = rw (c .enum-told3 .given .1, data-keeps 4 (c .before .before .args .byte))
+returns-3 c =
+    let start : tie.Start = search needs in
+    rw (c .enum-told3 .given .1, data-keeps 4 (start .args .byte))
 
 returns-4 : tie.Need-returns-4
 unfolding withSeqData seqKeeps
-returns-4 c = rw (c .enum-told4 .given .1, and-mask (c .before .before .args .byte) 6)
+returns-4 c =
+    let start : tie.Start = search needs in
+    rw (c .enum-told4 .given .1, and-mask (start .args .byte) 6)
 
 returns-5 : tie.Need-returns-5
 unfolding withSeqData seqKeeps
-returns-5 c = rw (c .enum-told5 .given .1, and-mask (c .before .before .args .byte) 6)
+returns-5 c =
+    let start : tie.Start = search needs in
+    rw (c .enum-told5 .given .1, and-mask (start .args .byte) 6)
 
 returns-6 : tie.Need-returns-6
 unfolding withSeqData seqKeeps

@@ -20,7 +20,9 @@ selected-requires c κs = search needs
 
 returns-2 : tie.Need-returns-2
 unfolding sequencerStep seqNumberOf seqValue seqNext withSeqAddress
-returns-2 c = simp (sym (c .before .before .fits-seq .ensures) ∙ not-false _ (c .before .if1 .left), c .selected .ensures)
+returns-2 c =
+    let after-fits-seq : tie.After-fits-seq = search needs in
+    simp (sym (after-fits-seq .fits-seq .ensures) ∙ not-false _ (c .before .if1 .left), c .selected .ensures)
 
 pub write-address-spec : {M : Type 1} → statement M
 write-address-spec = tie.close (tie.spec fits-seq-requires returns selected-requires returns-2)

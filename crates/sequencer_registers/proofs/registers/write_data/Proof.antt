@@ -19,7 +19,9 @@ with-seq-data-requires c κs = search needs
 
 returns-2 : tie.Need-returns-2
 unfolding sequencerStep seqNumberOf seqValue seqNext
-returns-2 c = simp (sym (c .before .before .fits-seq .ensures) ∙ not-false _ (c .before .if1 .left), c .with-seq-data .ensures)
+returns-2 c =
+    let after-fits-seq : tie.After-fits-seq = search needs in
+    simp (sym (after-fits-seq .fits-seq .ensures) ∙ not-false _ (c .before .if1 .left), c .with-seq-data .ensures)
 
 pub write-data-spec : {M : Type 1} → statement M
 write-data-spec = tie.close (tie.spec fits-seq-requires returns with-seq-data-requires returns-2)

@@ -16,7 +16,8 @@ of-answer-requires c κs = search needs
 
 returns : tie.Need-returns
 returns c =
-    cpu-so _ _ _ _ (c .before .before .cpu-peek-u8 .ensures) (c .of-answer .ensures ∙ c .before .of-byte .ensures)
+    let after-cpu-peek-u8 : tie.After-cpu-peek-u8 = search needs in
+    cpu-so _ _ _ _ (after-cpu-peek-u8 .cpu-peek-u8 .ensures) (c .of-answer .ensures ∙ c .before .of-byte .ensures)
 
 pub peek-spec : {M : Type 1} → statement M
 peek-spec = tie.close (tie.spec cpu-peek-u8-requires of-byte-requires of-answer-requires returns)

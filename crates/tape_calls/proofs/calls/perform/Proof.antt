@@ -84,28 +84,39 @@ show-requires c κs = search needs
 
 returns : tie.Need-returns
 returns c =
-    rw (c .before .before .before .before .enum-told .given .1)
-    (reset-so _ _ _ (c .reset2 .ensures) (c .before .reset .ensures) (c .before .before .of-answer .ensures ∙ ap answerSaid (c .before .before .before .done .ensures)))
+    let after-of-answer : tie.After-of-answer = search needs in
+    let after-done : tie.After-done = search needs in
+    let after-enum-told : tie.After-enum-told = search needs in
+    rw (after-enum-told .enum-told .given .1)
+    (reset-so _ _ _ (c .reset2 .ensures) (c .before .reset .ensures) (after-of-answer .of-answer .ensures ∙ ap answerSaid (after-done .done .ensures)))
 
 returns-2 : tie.Need-returns-2
 unfolding performed
 returns-2 c =
-    rw (c .before .before .before .command .given .1) (graphics-so _ _ _ _ (c .before .write-address .ensures) (c .graphics-done .ensures .0) (c .graphics-done .ensures .1) (c .graphics-done .ensures .2))
+    let after-command : tie.After-command = search needs in
+    rw (after-command .command .given .1)
+    (graphics-so _ _ _ _ (c .before .write-address .ensures) (c .graphics-done .ensures .0) (c .graphics-done .ensures .1) (c .graphics-done .ensures .2))
 
 returns-3 : tie.Need-returns-3
 unfolding performed
 returns-3 c =
-    rw (c .before .before .before .command2 .given .1) (graphics-so _ _ _ _ (c .before .write-data .ensures) (c .graphics-done2 .ensures .0) (c .graphics-done2 .ensures .1) (c .graphics-done2 .ensures .2))
+    let after-command2 : tie.After-command2 = search needs in
+    rw (after-command2 .command2 .given .1)
+    (graphics-so _ _ _ _ (c .before .write-data .ensures) (c .graphics-done2 .ensures .0) (c .graphics-done2 .ensures .1) (c .graphics-done2 .ensures .2))
 
 returns-4 : tie.Need-returns-4
 unfolding performed
 returns-4 c =
-    rw (c .before .before .before .command3 .given .1) (sequencer-so _ _ _ _ (c .before .write-address2 .ensures) (c .sequencer-done .ensures .0) (c .sequencer-done .ensures .1) (c .sequencer-done .ensures .2))
+    let after-command3 : tie.After-command3 = search needs in
+    rw (after-command3 .command3 .given .1)
+    (sequencer-so _ _ _ _ (c .before .write-address2 .ensures) (c .sequencer-done .ensures .0) (c .sequencer-done .ensures .1) (c .sequencer-done .ensures .2))
 
 returns-5 : tie.Need-returns-5
 unfolding performed
 returns-5 c =
-    rw (c .before .before .before .command4 .given .1) (sequencer-so _ _ _ _ (c .before .write-data2 .ensures) (c .sequencer-done2 .ensures .0) (c .sequencer-done2 .ensures .1) (c .sequencer-done2 .ensures .2))
+    let after-command4 : tie.After-command4 = search needs in
+    rw (after-command4 .command4 .given .1)
+    (sequencer-so _ _ _ _ (c .before .write-data2 .ensures) (c .sequencer-done2 .ensures .0) (c .sequencer-done2 .ensures .1) (c .sequencer-done2 .ensures .2))
 
 same-length : tie.Need-same-length
 same-length c = search needs
@@ -125,7 +136,8 @@ same-length-5 c = search needs
 returns-6 : tie.Need-returns-6
 unfolding performed
 returns-6 c =
-    rw (c .before .before .before .before .before .before .before .command5 .given .1) (c .read .ensures)
+    let after-command5 : tie.After-command5 = search needs in
+    rw (after-command5 .command5 .given .1) (c .read .ensures)
 
 same-length-6 : tie.Need-same-length-6
 same-length-6 c = search needs
@@ -145,7 +157,9 @@ same-length-10 c = search needs
 returns-7 : tie.Need-returns-7
 unfolding performed
 returns-7 c =
-    rw (c .before .before .before .before .before .before .before .before .before .before .before .before .before .before .before .before .before .command6 .given .1) (c .before .before .before .before .before .before .before .before .before .before .write .ensures)
+    let after-write : tie.After-write = search needs in
+    let after-command6 : tie.After-command6 = search needs in
+    rw (after-command6 .command6 .given .1) (after-write .write .ensures)
 
 same-length-11 : tie.Need-same-length-11
 same-length-11 c = search needs
@@ -165,7 +179,8 @@ same-length-15 c = search needs
 returns-8 : tie.Need-returns-8
 unfolding performed
 returns-8 c =
-    rw (c .before .before .before .before .before .before .before .command7 .given .1) (c .peek .ensures)
+    let after-command7 : tie.After-command7 = search needs in
+    rw (after-command7 .command7 .given .1) (c .peek .ensures)
 
 same-length-16 : tie.Need-same-length-16
 same-length-16 c = search needs
@@ -185,7 +200,8 @@ same-length-20 c = search needs
 returns-9 : tie.Need-returns-9
 unfolding performed
 returns-9 c =
-    rw (c .before .before .before .before .before .before .before .command8 .given .1) (c .show .ensures)
+    let after-command8 : tie.After-command8 = search needs in
+    rw (after-command8 .command8 .given .1) (c .show .ensures)
 
 pub perform-spec : {M : Type 1} → statement M
 perform-spec =

@@ -37,7 +37,8 @@ shared-slice-read-t19 c = search needs
 returns-2 : tie.Need-returns-2
 unfolding handedOf
 returns-2 c =
-    rw (eq-eqb _ _ (c .before .before .before .before .before .before .before .before .if1 .left))
+    let else1 : tie.Else1 = search needs in
+    rw (eq-eqb _ _ (else1 .if1 .left))
 
 pub pixels-spec : {M : Type 1} → statement M
 pixels-spec =

@@ -16,7 +16,8 @@ of-answer-requires c κs = search needs
 
 returns : tie.Need-returns
 returns c =
-    cpu-so _ _ _ _ (c .before .before .before .cpu-read-u8 .ensures) (c .of-answer .ensures ∙ c .before .of-byte .ensures)
+    let after-cpu-read-u8 : tie.After-cpu-read-u8 = search needs in
+    cpu-so _ _ _ _ (after-cpu-read-u8 .cpu-read-u8 .ensures) (c .of-answer .ensures ∙ c .before .of-byte .ensures)
 
 pub read-spec : {M : Type 1} → statement M
 read-spec = tie.close (tie.spec cpu-read-u8-requires of-byte-requires of-answer-requires returns)

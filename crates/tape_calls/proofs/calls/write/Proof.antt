@@ -31,7 +31,8 @@ same-length-5 c = search needs
 
 returns : tie.Need-returns
 returns c =
-    cpu-so _ _ _ _ (c .before .before .before .before .before .before .before .before .before .before .before .before .before .cpu-write-u8 .ensures) (c .of-answer .ensures ∙ c .before .of-store .ensures)
+    let after-cpu-write-u8 : tie.After-cpu-write-u8 = search needs in
+    cpu-so _ _ _ _ (after-cpu-write-u8 .cpu-write-u8 .ensures) (c .of-answer .ensures ∙ c .before .of-store .ensures)
 
 pub write-spec : {M : Type 1} → statement M
 write-spec =

@@ -21,22 +21,27 @@ enum-known-value c = search needs
 
 first-argument-requires : tie.Need-first-argument-requires
 first-argument-requires c κs =
-    number-fits _ _ _ (c .before .before .before .read-number .ensures) (c .before .value .given .1) .1
+    let after-read-number : tie.After-read-number = search needs in
+    number-fits _ _ _ (after-read-number .read-number .ensures) (c .before .value .given .1) .1
 
 returns : tie.Need-returns
 unfolding started
 returns c =
-    started-so _ (c .before .before .read-number .ensures) (c .enum-told .given .1)
+    let after-read-number : tie.After-read-number = search needs in
+    started-so _ (after-read-number .read-number .ensures) (c .enum-told .given .1)
 
 returns-2 : tie.Need-returns-2
 unfolding started
 returns-2 c =
-    started-so _ (c .before .before .read-number .ensures) (c .enum-told2 .given .1)
+    let after-read-number : tie.After-read-number = search needs in
+    started-so _ (after-read-number .read-number .ensures) (c .enum-told2 .given .1)
 
 returns-3 : tie.Need-returns-3
 unfolding started
 returns-3 c =
-    c .first-argument .ensures ∙ started-so _ (c .before .before .before .before .read-number .ensures) (c .before .before .value .given .1)
+    let after-value : tie.After-value = search needs in
+    let after-read-number : tie.After-read-number = search needs in
+    c .first-argument .ensures ∙ started-so _ (after-read-number .read-number .ensures) (after-value .value .given .1)
 
 pub decode-spec : {M : Type 1} → statement M
 decode-spec =

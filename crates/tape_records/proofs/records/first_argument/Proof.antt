@@ -19,7 +19,8 @@ returns c =
 
 add-read-argument : tie.Need-add-read-argument
 add-read-argument c =
-    omega (arith, c .before .before .pre)
+    let start : tie.Start = search needs in
+    omega (arith, start .pre)
 
 greatest-requires : tie.Need-greatest-requires
 greatest-requires c κs = search needs
@@ -38,21 +39,41 @@ enum-known-value c = search needs
 
 add-second-argument : tie.Need-add-second-argument
 add-second-argument c =
-    let h = argument-fits _ _ _ (c .before .before .before .before .before .before .before .pre) (c .before .before .before .read-argument .ensures) (c .before .value .given .1) in omega (arith, h .1)
+    let after-read-argument : tie.After-read-argument = search needs in
+    let start : tie.Start = search needs in
+    let h = argument-fits _ _ _ (start .pre) (after-read-argument .read-argument .ensures) (c .before .value .given .1) in
+    omega (arith, h .1)
 
 second-argument-requires : tie.Need-second-argument-requires
 second-argument-requires c κs =
-    let h = argument-fits _ _ _ (c .before .before .before .before .before .before .before .pre) (c .before .before .before .read-argument .ensures) (c .before .value .given .1) in (c .before .before .before .before .before .if1 .left, rw (c .before .before .before .before .greatest .ensures) at (h .0), omega (arith, h .1))
+    let after-read-argument : tie.After-read-argument = search needs in
+    let after-greatest : tie.After-greatest = search needs in
+    let else1 : tie.Else1 = search needs in
+    let start : tie.Start = search needs in
+    let h = argument-fits _ _ _ (start .pre) (after-read-argument .read-argument .ensures) (c .before .value .given .1) in
+    (else1 .if1 .left, rw (after-greatest .greatest .ensures) at (h .0), omega (arith, h .1))
 
 returns-2 : tie.Need-returns-2
 unfolding goesOn
 returns-2 c =
-    c .broken2 .ensures ∙ first-so (c .before .before .before .before .before .before .before .before .args .tape .now) (c .before .before .before .before .before .before .before .before .args .from) (c .before .before .before .before .before .before .before .before .args .operation) (c .before .before .before .before .before .before .before .before .args .at) (c .before .before .before .before .before .before .if1 .left) (c .before .before .before .before .before .greatest .ensures) (c .before .before .before .before .read-argument .ensures) (c .before .before .fault .given .1)
+    let after-fault : tie.After-fault = search needs in
+    let after-read-argument : tie.After-read-argument = search needs in
+    let after-greatest : tie.After-greatest = search needs in
+    let else1 : tie.Else1 = search needs in
+    let start : tie.Start = search needs in
+    c .broken2 .ensures ∙ first-so (start .args .tape .now) (start .args .from) (start .args .operation) (start .args .at) (else1 .if1 .left) (after-greatest .greatest .ensures)
+    (after-read-argument .read-argument .ensures) (after-fault .fault .given .1)
 
 returns-3 : tie.Need-returns-3
 unfolding goesOn
 returns-3 c =
-    c .second-argument .ensures ∙ first-so (c .before .before .before .before .before .before .before .before .args .tape .now) (c .before .before .before .before .before .before .before .before .args .from) (c .before .before .before .before .before .before .before .before .args .operation) (c .before .before .before .before .before .before .before .before .args .at) (c .before .before .before .before .before .before .if1 .left) (c .before .before .before .before .before .greatest .ensures) (c .before .before .before .before .read-argument .ensures) (c .before .before .value .given .1)
+    let after-value : tie.After-value = search needs in
+    let after-read-argument : tie.After-read-argument = search needs in
+    let after-greatest : tie.After-greatest = search needs in
+    let else1 : tie.Else1 = search needs in
+    let start : tie.Start = search needs in
+    c .second-argument .ensures ∙ first-so (start .args .tape .now) (start .args .from) (start .args .operation) (start .args .at) (else1 .if1 .left)
+    (after-greatest .greatest .ensures) (after-read-argument .read-argument .ensures) (after-value .value .given .1)
 
 pub first-argument-spec : {M : Type 1} → statement M
 first-argument-spec =

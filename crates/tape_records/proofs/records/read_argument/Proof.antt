@@ -26,22 +26,34 @@ enum-known-value c = search needs
 returns-2 : tie.Need-returns-2
 unfolding judged
 returns-2 c =
-    judged-so _ _ (c .before .before .before .if1 .left) (c .before .before .read-number .ensures) (c .enum-told .given .1)
+    let after-read-number : tie.After-read-number = search needs in
+    let else1 : tie.Else1 = search needs in
+    judged-so _ _ (else1 .if1 .left) (after-read-number .read-number .ensures) (c .enum-told .given .1)
 
 returns-3 : tie.Need-returns-3
 unfolding judged
 returns-3 c =
-    judged-so _ _ (c .before .before .before .if1 .left) (c .before .before .read-number .ensures) (c .enum-told2 .given .1)
+    let after-read-number : tie.After-read-number = search needs in
+    let else1 : tie.Else1 = search needs in
+    judged-so _ _ (else1 .if1 .left) (after-read-number .read-number .ensures) (c .enum-told2 .given .1)
 
 returns-4 : tie.Need-returns-4
 unfolding judged
 returns-4 c =
-    let e = judged-so _ _ (c .before .before .before .before .before .if1 .left) (c .before .before .before .before .read-number .ensures) (c .before .before .value .given .1) in rw (le-leb _ _ (c .if2 .taken)) at e
+    let after-value : tie.After-value = search needs in
+    let after-read-number : tie.After-read-number = search needs in
+    let else1 : tie.Else1 = search needs in
+    let e = judged-so _ _ (else1 .if1 .left) (after-read-number .read-number .ensures) (after-value .value .given .1) in
+    rw (le-leb _ _ (c .if2 .taken)) at e
 
 returns-5 : tie.Need-returns-5
 unfolding judged
 returns-5 c =
-    let e = judged-so _ _ (c .before .before .before .before .before .if1 .left) (c .before .before .before .before .read-number .ensures) (c .before .before .value .given .1) in rw (lt-leb _ _ (c .if2 .left)) at e
+    let after-value : tie.After-value = search needs in
+    let after-read-number : tie.After-read-number = search needs in
+    let else1 : tie.Else1 = search needs in
+    let e = judged-so _ _ (else1 .if1 .left) (after-read-number .read-number .ensures) (after-value .value .given .1) in
+    rw (lt-leb _ _ (c .if2 .left)) at e
 
 pub read-argument-spec : {M : Type 1} → statement M
 read-argument-spec =

@@ -29,21 +29,38 @@ enum-known-value c = search needs
 
 add-third-argument : tie.Need-add-third-argument
 add-third-argument c =
-    let h = argument-fits _ _ _ (c .before .before .before .before .before .before .pre .2) (c .before .before .before .read-argument .ensures) (c .before .value .given .1) in omega (arith, h .1)
+    let after-read-argument : tie.After-read-argument = search needs in
+    let start : tie.Start = search needs in
+    let h = argument-fits _ _ _ (start .pre .2) (after-read-argument .read-argument .ensures) (c .before .value .given .1) in
+    omega (arith, h .1)
 
 third-argument-requires : tie.Need-third-argument-requires
 third-argument-requires c κs =
-    let h = argument-fits _ _ _ (c .before .before .before .before .before .before .pre .2) (c .before .before .before .read-argument .ensures) (c .before .value .given .1) in (c .before .before .before .before .before .before .pre .0, c .before .before .before .before .before .before .pre .1, rw (c .before .before .before .before .greatest .ensures) at (h .0), omega (arith, h .1))
+    let after-read-argument : tie.After-read-argument = search needs in
+    let after-greatest : tie.After-greatest = search needs in
+    let start : tie.Start = search needs in
+    let h = argument-fits _ _ _ (start .pre .2) (after-read-argument .read-argument .ensures) (c .before .value .given .1) in
+    (start .pre .0, start .pre .1, rw (after-greatest .greatest .ensures) at (h .0), omega (arith, h .1))
 
 returns : tie.Need-returns
 unfolding goesOn
 returns c =
-    c .broken .ensures ∙ second-so (c .before .before .before .before .before .before .before .args .tape .now) (c .before .before .before .before .before .before .before .args .from) (c .before .before .before .before .before .before .before .args .operation) (c .before .before .before .before .before .before .before .args .a) (c .before .before .before .before .before .before .before .args .at) (c .before .before .before .before .before .greatest .ensures) (c .before .before .before .before .read-argument .ensures) (c .before .before .fault .given .1)
+    let after-fault : tie.After-fault = search needs in
+    let after-read-argument : tie.After-read-argument = search needs in
+    let after-greatest : tie.After-greatest = search needs in
+    let start : tie.Start = search needs in
+    c .broken .ensures ∙ second-so (start .args .tape .now) (start .args .from) (start .args .operation) (start .args .a) (start .args .at) (after-greatest .greatest .ensures)
+    (after-read-argument .read-argument .ensures) (after-fault .fault .given .1)
 
 returns-2 : tie.Need-returns-2
 unfolding goesOn
 returns-2 c =
-    c .third-argument .ensures ∙ second-so (c .before .before .before .before .before .before .before .args .tape .now) (c .before .before .before .before .before .before .before .args .from) (c .before .before .before .before .before .before .before .args .operation) (c .before .before .before .before .before .before .before .args .a) (c .before .before .before .before .before .before .before .args .at) (c .before .before .before .before .before .greatest .ensures) (c .before .before .before .before .read-argument .ensures) (c .before .before .value .given .1)
+    let after-value : tie.After-value = search needs in
+    let after-read-argument : tie.After-read-argument = search needs in
+    let after-greatest : tie.After-greatest = search needs in
+    let start : tie.Start = search needs in
+    c .third-argument .ensures ∙ second-so (start .args .tape .now) (start .args .from) (start .args .operation) (start .args .a) (start .args .at)
+    (after-greatest .greatest .ensures) (after-read-argument .read-argument .ensures) (after-value .value .given .1)
 
 pub second-argument-spec : {M : Type 1} → statement M
 second-argument-spec =

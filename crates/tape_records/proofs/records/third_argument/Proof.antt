@@ -32,21 +32,40 @@ enum-known-value c = search needs
 
 commanded-requires : tie.Need-commanded-requires
 commanded-requires c κs =
-    let h = argument-fits _ _ _ (c .before .before .before .before .before .before .pre .3) (c .before .before .before .read-argument .ensures) (c .before .value .given .1) in (c .before .before .before .before .before .before .pre .0, c .before .before .before .before .before .before .pre .1, c .before .before .before .before .before .before .pre .2, rw (c .before .before .before .before .greatest .ensures) at (h .0))
+    let after-read-argument : tie.After-read-argument = search needs in
+    let after-greatest : tie.After-greatest = search needs in
+    let start : tie.Start = search needs in
+    let h = argument-fits _ _ _ (start .pre .3) (after-read-argument .read-argument .ensures) (c .before .value .given .1) in
+    (start .pre .0, start .pre .1, start .pre .2, rw (after-greatest .greatest .ensures) at (h .0))
 
 add-t15 : tie.Need-add-t15
 add-t15 c =
-    let h = argument-fits _ _ _ (c .before .before .before .before .before .before .before .pre .3) (c .before .before .before .before .read-argument .ensures) (c .before .before .value .given .1) in omega (arith, h .1)
+    let after-value : tie.After-value = search needs in
+    let after-read-argument : tie.After-read-argument = search needs in
+    let start : tie.Start = search needs in
+    let h = argument-fits _ _ _ (start .pre .3) (after-read-argument .read-argument .ensures) (after-value .value .given .1) in
+    omega (arith, h .1)
 
 returns : tie.Need-returns
 unfolding goesOn
 returns c =
-    c .broken .ensures ∙ third-so (c .before .before .before .before .before .before .before .args .tape .now) (c .before .before .before .before .before .before .before .args .from) (c .before .before .before .before .before .before .before .args .operation) (c .before .before .before .before .before .before .before .args .a) (c .before .before .before .before .before .before .before .args .b) (c .before .before .before .before .before .before .before .args .at) (c .before .before .before .before .before .greatest .ensures) (c .before .before .before .before .read-argument .ensures) (c .before .before .fault .given .1)
+    let after-fault : tie.After-fault = search needs in
+    let after-read-argument : tie.After-read-argument = search needs in
+    let after-greatest : tie.After-greatest = search needs in
+    let start : tie.Start = search needs in
+    c .broken .ensures ∙ third-so (start .args .tape .now) (start .args .from) (start .args .operation) (start .args .a) (start .args .b) (start .args .at)
+    (after-greatest .greatest .ensures) (after-read-argument .read-argument .ensures) (after-fault .fault .given .1)
 
 returns-2 : tie.Need-returns-2
 unfolding goesOn
 returns-2 c =
-    ap (λ (x : Command). Whole x (c .before .before .before .before .before .before .before .args .at + c .before .before .value .given .0 .1 .0)) (c .commanded .ensures) ∙ third-so (c .before .before .before .before .before .before .before .args .tape .now) (c .before .before .before .before .before .before .before .args .from) (c .before .before .before .before .before .before .before .args .operation) (c .before .before .before .before .before .before .before .args .a) (c .before .before .before .before .before .before .before .args .b) (c .before .before .before .before .before .before .before .args .at) (c .before .before .before .before .before .greatest .ensures) (c .before .before .before .before .read-argument .ensures) (c .before .before .value .given .1)
+    let after-value : tie.After-value = search needs in
+    let after-read-argument : tie.After-read-argument = search needs in
+    let after-greatest : tie.After-greatest = search needs in
+    let start : tie.Start = search needs in
+    ap (λ (x : Command). Whole x (start .args .at + after-value .value .given .0 .1 .0)) (c .commanded .ensures) ∙ third-so (start .args .tape .now) (start .args .from)
+    (start .args .operation) (start .args .a) (start .args .b) (start .args .at) (after-greatest .greatest .ensures) (after-read-argument .read-argument .ensures)
+    (after-value .value .given .1)
 
 pub third-argument-spec : {M : Type 1} → statement M
 third-argument-spec =

@@ -7,6 +7,10 @@ use Rattle.vram_pixels.proofs.Pixels.{remade-halves}
 use Rattle.vram_pixels.proofs.inner.remake.Statement.{statement}
 use Rattle.vram_pixels.proofs.inner.remake.Tie as tie
 
+-- the start, which a search from the walk's end does not go back to
+start-of : tie.After-first-pixel → tie.Start
+start-of after-first-pixel = search needs
+
 shared-slice-read-b0 : tie.Need-shared-slice-read-b0
 shared-slice-read-b0 c = search needs
 
@@ -83,8 +87,15 @@ same-length : tie.Need-same-length
 same-length c = simp length-set
 
 returns : tie.Need-returns
+unfolding start-of
 returns c =
-    remade-halves (mem (c .before .before .before .before .before .before .before .before .before .before .before .before .before .before .args .p0 .now) (c .before .before .before .before .before .before .before .before .before .before .before .before .before .before .args .p1 .now) (c .before .before .before .before .before .before .before .before .before .before .before .before .before .before .args .p2 .now) (c .before .before .before .before .before .before .before .before .before .before .before .before .before .before .args .p3 .now) (c .before .before .before .before .before .before .before .before .before .before .before .before .before .before .args .picture .now)) (c .before .before .before .before .before .before .before .before .before .before .before .before .before .before .args .at) _ _ _ _ _ (c .before .before .before .before .first-pixel .ensures) (c .before .before .before .two-pixels .ensures) (c .before .before .two-pixels2 .ensures) (c .before .two-pixels3 .ensures) (c .two-pixels4 .ensures)
+    let after-two-pixels2 : tie.After-two-pixels2 = search needs in
+    let after-two-pixels : tie.After-two-pixels = search needs in
+    let after-first-pixel : tie.After-first-pixel = search needs in
+    let a = start-of after-first-pixel .args in
+    let m = mem (a .p0 .now) (a .p1 .now) (a .p2 .now) (a .p3 .now) (a .picture .now) in
+    remade-halves m (a .at) _ _ _ _ _ (after-first-pixel .first-pixel .ensures)
+    (after-two-pixels .two-pixels .ensures) (after-two-pixels2 .two-pixels2 .ensures) (c .before .two-pixels3 .ensures) (c .two-pixels4 .ensures)
 
 pub remake-spec : {M : Type 1} → statement M
 remake-spec =

@@ -31,7 +31,9 @@ shared-slice-read-result-4 c = search needs
 
 returns-4 : tie.Need-returns-4
 returns-4 c =
-    let e : c .before .before .before .before .args .plane ≡ 3 = omega arith in rw e
+    let start : tie.Start = search needs in
+    let e : start .args .plane ≡ 3 = omega arith in
+    rw e
 
 pub byte-spec : {M : Type 1} → statement M
 byte-spec =

@@ -19,11 +19,13 @@ returns c = search needs
 
 returns-2 : tie.Need-returns-2
 returns-2 c =
-    rw (c .enum-told2 .given .1) (is-of 8 (and8 (c .before .before .args .x) (c .before .before .args .old) (search needs)) (λ i l. bit-and i _ _))
+    let start : tie.Start = search needs in
+    rw (c .enum-told2 .given .1) (is-of 8 (and8 (start .args .x) (start .args .old) (search needs)) (λ i l. bit-and i _ _))
 
 returns-3 : tie.Need-returns-3
 returns-3 c =
-    rw (c .enum-told3 .given .1) (is-of 8 (or8 (c .before .before .args .x) (c .before .before .args .old) (search needs) (search needs)) (λ i l. bit-or i _ _))
+    let start : tie.Start = search needs in
+    rw (c .enum-told3 .given .1) (is-of 8 (or8 (start .args .x) (start .args .old) (search needs) (search needs)) (λ i l. bit-or i _ _))
 
 pub combined-spec : {M : Type 1} → statement M
 combined-spec = tie.close (tie.spec enum-told enum-told-2 enum-told-3 returns returns-2 returns-3)

@@ -20,7 +20,9 @@ same-length c = search needs
 
 returns : tie.Need-returns
 unfolding laid
-returns c = rw (c .before .before .if1 .taken, c .combined .ensures)
+returns c =
+    let then1 : tie.Then1 = search needs in
+    rw (then1 .if1 .taken, c .combined .ensures)
 
 slice-read-combined-2 : tie.Need-slice-read-combined-2
 slice-read-combined-2 c = search needs
@@ -36,7 +38,9 @@ same-length-2 c = search needs
 
 returns-2 : tie.Need-returns-2
 unfolding laid
-returns-2 c = rw (c .before .before .if2 .taken, c .combined2 .ensures)
+returns-2 c =
+    let then2 : tie.Then2 = search needs in
+    rw (then2 .if2 .taken, c .combined2 .ensures)
 
 slice-read-combined-3 : tie.Need-slice-read-combined-3
 slice-read-combined-3 c = search needs
@@ -52,7 +56,9 @@ same-length-3 c = search needs
 
 returns-3 : tie.Need-returns-3
 unfolding laid
-returns-3 c = rw (c .before .before .if3 .taken, c .combined3 .ensures)
+returns-3 c =
+    let then3 : tie.Then3 = search needs in
+    rw (then3 .if3 .taken, c .combined3 .ensures)
 
 slice-read-combined-4 : tie.Need-slice-read-combined-4
 slice-read-combined-4 c = search needs
@@ -69,7 +75,9 @@ same-length-4 c = search needs
 returns-4 : tie.Need-returns-4
 unfolding laid
 returns-4 c =
-    let e : c .before .before .before .before .before .before .before .before .before .before .args .plane ≡ 3 = omega arith in rw (e, c .combined4 .ensures)
+    let start : tie.Start = search needs in
+    let e : start .args .plane ≡ 3 = omega arith in
+    rw (e, c .combined4 .ensures)
 
 pub lay-spec : {M : Type 1} → statement M
 lay-spec =

@@ -28,7 +28,10 @@ same-length-5 c = search needs
 
 returns : tie.Need-returns
 returns c =
-    c .before .before .remake .ensures ∙ ap (remade (c .before .before .before .before .before .before .before .before .before .before .before .before .before .before .before .before .before .before .before .before .before .before .before .before .before .before .before .args .at)) (c .before .before .before .before .before .before .before .before .before .before .before .before .before .before .before .before .lay .ensures)
+    let after-remake : tie.After-remake = search needs in
+    let after-lay : tie.After-lay = search needs in
+    let start : tie.Start = search needs in
+    after-remake .remake .ensures ∙ ap (remade (start .args .at)) (after-lay .lay .ensures)
 
 pub store-spec : {M : Type 1} → statement M
 store-spec =
