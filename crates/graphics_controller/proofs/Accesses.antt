@@ -77,15 +77,19 @@ module _ (r : GraphicsRegisters) (s : Sequencer) (h : Shape) (x : ℕ) (page : B
   unfolding accessNumber
   access-fits e = both (fitsGc r) (fitsSeq s) (refuse-0 (fitsBoth r s) 5 _ (sym e) .0)
 
--- the answer of `judge_address`, by the tests of both records and of the memory
-pub judged : (r : GraphicsRegisters) (s : Sequencer) (m : Memory) (x : ℕ) (page : Bool) (d : MappedAnswer) (f g : Bool) (w : MemoryMap) (c : Bool)
-    → f ≡ fitsBoth r s → g ≡ sound (shape m) → w ≡ memoryMap r → c ≡ chained r
-    → outcome (mappedSaid d) x ≡ answered (refuse f 6 (refuse g 1 (refuse (inWindow w x) 2 (refuse (ltb (mapped w c x page % 65536) (length (m .p0))) 3 0))))
+-- an address judged, in the machine's words
+abbrev pub JudgedAddress : GraphicsRegisters → Sequencer → Memory → ℕ → Bool → MappedAnswer → Type 0
+JudgedAddress r s m x page d = outcome (mappedSaid d) r ≡ answered (accessNumber r s (shape m) x page) (two (offset r x page) (bitOf (a0 x))) r r
+
+-- the answer of `judge_address`, by the tests of both records and of the memory, whose lengths are h
+pub judged : (r : GraphicsRegisters) (s : Sequencer) (m : Memory) (x : ℕ) (page : Bool) (d : MappedAnswer) (h : Shape) (f g : Bool) (w : MemoryMap) (c : Bool)
+    → h ≡ shape m → f ≡ fitsBoth r s → g ≡ sound h → w ≡ memoryMap r → c ≡ chained r
+    → outcome (mappedSaid d) x ≡ answered (refuse f 6 (refuse g 1 (refuse (inWindow w x) 2 (refuse (ltb (mapped w c x page % 65536) (h .p0)) 3 0))))
     (two (mapped w c x page % 65536) (bitOf (a0 x))) x x
-    → outcome (mappedSaid d) r ≡ answered (accessNumber r s (shape m) x page) (two (offset r x page) (bitOf (a0 x))) r r
+    → JudgedAddress r s m x page d
 unfolding accessNumber offset
-judged r s m x page d f g w c ef eg ew ec e =
-    left (accessNumber r s (shape m) x page) (two (offset r x page) (bitOf (a0 x))) (mappedSaid d) x r (rw (← ef, ← eg, ← ew, ← ec) e)
+judged r s m x page d h f g w c eh ef eg ew ec e =
+    left (accessNumber r s (shape m) x page) (two (offset r x page) (bitOf (a0 x))) (mappedSaid d) x r (rw (← ef, ← rw eh at eg, ← ew, ← ec) (rw eh at e))
 
 -- 6, 1, 9 and 5 passed
 pub show-accepted : (r : GraphicsRegisters) (s : Sequencer) (m : Memory) (o : ℕ) → 0 ≡ showNumber r s (shape m) o → AtOffset (shape m) o

@@ -88,13 +88,7 @@ pub fn cpu_read_u8(
     ensures { λ r. ⌜ outcome (byteSaid (r .answer)) (device (r .gc) (before p0 p1 p2 p3 picture)) ≡ cpuStep gc seq (before p0 p1 p2 p3 picture) (cpuRead address page) ⌝ }
 {
     let registers = gc.registers;
-    let shape = Shape {
-        p0: p0.len(),
-        p1: p1.len(),
-        p2: p2.len(),
-        p3: p3.len(),
-        picture: picture.len(),
-    };
+    let shape = Shape::of(p0.len(), p1.len(), p2.len(), p3.len(), picture.len());
     let fits = fits_both(registers, seq);
     let good = shaped(shape);
     let map = fields::gc::memory_map(registers);
@@ -127,13 +121,7 @@ pub fn cpu_peek_u8(
     ensures { λ r. ⌜ outcome (byteSaid r) (device gc (before p0 p1 p2 p3 picture)) ≡ cpuStep gc seq (before p0 p1 p2 p3 picture) (cpuPeek address page) ⌝ }
 {
     let registers = gc.registers;
-    let shape = Shape {
-        p0: p0.len(),
-        p1: p1.len(),
-        p2: p2.len(),
-        p3: p3.len(),
-        picture: picture.len(),
-    };
+    let shape = Shape::of(p0.len(), p1.len(), p2.len(), p3.len(), picture.len());
     let fits = fits_both(registers, seq);
     let good = shaped(shape);
     let map = fields::gc::memory_map(registers);
@@ -181,13 +169,7 @@ pub fn cpu_write_u8(
     ensures { λ r. ⌜ outcome (storeSaid (r .answer)) (device (r .gc) (after p0 p1 p2 p3 picture)) ≡ cpuStep gc seq (before p0 p1 p2 p3 picture) (cpuWrite address page byte) ⌝ }
 {
     let registers = gc.registers;
-    let shape = Shape {
-        p0: p0.len(),
-        p1: p1.len(),
-        p2: p2.len(),
-        p3: p3.len(),
-        picture: picture.len(),
-    };
+    let shape = Shape::of(p0.len(), p1.len(), p2.len(), p3.len(), picture.len());
     let fits = fits_both(registers, seq);
     let good = shaped(shape);
     let map = fields::gc::memory_map(registers);

@@ -25,13 +25,7 @@ pub fn serialize<'a, 'b, 'c, 'd, 'p, 'n>(
 ) -> &'p [u8]
     ensures { λ r. ⌜ outcome (partSaid (now (number .exit)) (now r)) (device gc (before p0 p1 p2 p3 picture)) ≡ cpuStep gc seq (before p0 p1 p2 p3 picture) (serializes (offset .0)) ⌝ }
 {
-    let shape = Shape {
-        p0: p0.len(),
-        p1: p1.len(),
-        p2: p2.len(),
-        p3: p3.len(),
-        picture: picture.len(),
-    };
+    let shape = Shape::of(p0.len(), p1.len(), p2.len(), p3.len(), picture.len());
     match judge_show(gc.registers, seq, shape, offset) {
         DoneAnswer::Refused(x) => {
             *number = fields::refusal_number(x);

@@ -44,13 +44,7 @@ pub fn deplane(
 ) -> DoneAnswer
     ensures { λ r. ⌜ outcome (doneSaid r) (after p0 p1 p2 p3 picture) ≡ vramStep (before p0 p1 p2 p3 picture) (remakes (offset .0)) ⌝ }
 {
-    let shape = Shape {
-        p0: p0.len(),
-        p1: p1.len(),
-        p2: p2.len(),
-        p3: p3.len(),
-        picture: picture.len(),
-    };
+    let shape = Shape::of(p0.len(), p1.len(), p2.len(), p3.len(), picture.len());
     match refusals_memory::judge_offset(shape, offset) {
         DoneAnswer::Refused(x) => DoneAnswer::Refused(x),
         DoneAnswer::Done => {
@@ -75,13 +69,7 @@ fn plane_store(
 ) -> StoreAnswer
     ensures { λ r. ⌜ outcome (storeSaid r) (after p0 p1 p2 p3 picture) ≡ vramStep (before p0 p1 p2 p3 picture) (vramStoreCall kind plane (offset .0) byte) ⌝ }
 {
-    let shape = Shape {
-        p0: p0.len(),
-        p1: p1.len(),
-        p2: p2.len(),
-        p3: p3.len(),
-        picture: picture.len(),
-    };
+    let shape = Shape::of(p0.len(), p1.len(), p2.len(), p3.len(), picture.len());
     match refusals_memory::judge_plane(shape, plane, offset) {
         DoneAnswer::Refused(x) => StoreAnswer::Refused(x),
         DoneAnswer::Done => {

@@ -22,13 +22,7 @@ pub fn read_glyph(
 ) -> ByteAnswer
     ensures { λ r. ⌜ outcome (byteSaid r) (before p0 p1 p2 p3 picture) ≡ vramStep (before p0 p1 p2 p3 picture) (readGlyph (offset .0)) ⌝ }
 {
-    let shape = Shape {
-        p0: p0.len(),
-        p1: p1.len(),
-        p2: p2.len(),
-        p3: p3.len(),
-        picture: picture.len(),
-    };
+    let shape = Shape::of(p0.len(), p1.len(), p2.len(), p3.len(), picture.len());
     match refusals_memory::judge_offset(shape, offset) {
         DoneAnswer::Refused(x) => ByteAnswer::Refused(x),
         DoneAnswer::Done => {
@@ -65,13 +59,7 @@ pub fn read_u8(
 ) -> ByteAnswer
     ensures { λ r. ⌜ outcome (byteSaid r) (before p0 p1 p2 p3 picture) ≡ vramStep (before p0 p1 p2 p3 picture) (readU8 plane (offset .0)) ⌝ }
 {
-    let shape = Shape {
-        p0: p0.len(),
-        p1: p1.len(),
-        p2: p2.len(),
-        p3: p3.len(),
-        picture: picture.len(),
-    };
+    let shape = Shape::of(p0.len(), p1.len(), p2.len(), p3.len(), picture.len());
     match refusals_memory::judge_plane(shape, plane, offset) {
         DoneAnswer::Refused(x) => ByteAnswer::Refused(x),
         DoneAnswer::Done => {
@@ -92,13 +80,7 @@ pub fn read_linear(
 ) -> ByteAnswer
     ensures { λ r. ⌜ outcome (pixelSaid r) (before p0 p1 p2 p3 picture) ≡ vramStep (before p0 p1 p2 p3 picture) (readLinear (place .0)) ⌝ }
 {
-    let shape = Shape {
-        p0: p0.len(),
-        p1: p1.len(),
-        p2: p2.len(),
-        p3: p3.len(),
-        picture: picture.len(),
-    };
+    let shape = Shape::of(p0.len(), p1.len(), p2.len(), p3.len(), picture.len());
     match refusals_memory::judge_place(shape, place) {
         DoneAnswer::Refused(x) => ByteAnswer::Refused(x),
         DoneAnswer::Done => {
@@ -120,13 +102,7 @@ pub fn serialize_linear<'a, 'b, 'c, 'd, 'p, 'n>(
 ) -> &'p [u8]
     ensures { λ r. ⌜ outcome (partSaid (now (number .exit)) (now r)) (before p0 p1 p2 p3 picture) ≡ vramStep (before p0 p1 p2 p3 picture) (serializeLinear (offset .0)) ⌝ }
 {
-    let shape = Shape {
-        p0: p0.len(),
-        p1: p1.len(),
-        p2: p2.len(),
-        p3: p3.len(),
-        picture: picture.len(),
-    };
+    let shape = Shape::of(p0.len(), p1.len(), p2.len(), p3.len(), picture.len());
     match refusals_memory::judge_shown(shape, offset) {
         DoneAnswer::Refused(x) => {
             *number = fields::refusal_number(x);

@@ -10,6 +10,9 @@ use Rattle.vram.proofs.Laws.{offset-asked}
 use Rattle.vram.proofs.deplane.Statement.{statement}
 use Rattle.vram.proofs.deplane.Tie as tie
 
+of-requires : tie.Need-of-requires
+of-requires c κs = search needs
+
 judge-offset-requires : tie.Need-judge-offset-requires
 judge-offset-requires c κs = search needs
 
@@ -21,12 +24,18 @@ enum-told c = search needs
 
 remake-requires : tie.Need-remake-requires
 remake-requires c κs =
-    offset-asked _ _ (as-told (c .before .enum-told .given .1) (c .before .before .before .judge-offset .ensures))
+    let after-judge-offset : tie.After-judge-offset = search needs in
+    let after-of : tie.After-of = search needs in
+    let judged = rw (after-of .of .ensures) at (after-judge-offset .judge-offset .ensures) in
+    offset-asked _ _ (as-told (c .before .enum-told .given .1) judged)
 
 returns : tie.Need-returns
 unfolding vramStep vramPlan valueOf
 returns c =
-    perform-refused _ _ _ _ (refusal-some (c .before .x .given .0 .0)) (as-told (c .before .x .given .1) (c .before .before .before .judge-offset .ensures)) refl
+    let after-judge-offset : tie.After-judge-offset = search needs in
+    let after-of : tie.After-of = search needs in
+    let judged = rw (after-of .of .ensures) at (after-judge-offset .judge-offset .ensures) in
+    perform-refused _ _ _ _ (refusal-some (c .before .x .given .0 .0)) (as-told (c .before .x .given .1) judged) refl
 
 same-length : tie.Need-same-length
 same-length c = search needs
@@ -34,12 +43,16 @@ same-length c = search needs
 returns-2 : tie.Need-returns-2
 unfolding vramStep vramPlan memoryAfter valueOf
 returns-2 c =
-    perform-done _ _ _ _ (as-told (c .before .before .before .before .enum-told .given .1) (c .before .before .before .before .before .before .judge-offset .ensures)) (c .before .before .remake .ensures) refl
+    let after-judge-offset : tie.After-judge-offset = search needs in
+    let after-of : tie.After-of = search needs in
+    let judged = rw (after-of .of .ensures) at (after-judge-offset .judge-offset .ensures) in
+    perform-done _ _ _ _ (as-told (c .before .before .before .before .enum-told .given .1) judged) (c .before .before .remake .ensures) refl
 
 pub deplane-spec : {M : Type 1} → statement M
 deplane-spec =
     tie.close
     (tie.spec
+    of-requires
     judge-offset-requires
     enum-known-x
     enum-told

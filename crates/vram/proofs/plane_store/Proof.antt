@@ -7,6 +7,9 @@ use Rattle.vram.proofs.Laws.{store-refused, store-done}
 use Rattle.vram.proofs.plane_store.Statement.{statement}
 use Rattle.vram.proofs.plane_store.Tie as tie
 
+of-requires : tie.Need-of-requires
+of-requires c κs = search needs
+
 judge-plane-requires : tie.Need-judge-plane-requires
 judge-plane-requires c κs = search needs
 
@@ -18,13 +21,19 @@ enum-told c = search needs
 
 store-requires : tie.Need-store-requires
 store-requires c κs =
-    plane-asked _ _ _ (as-told (c .before .before .before .before .before .enum-told .given .1) (c .before .before .before .before .before .before .before .judge-plane .ensures))
+    let after-judge-plane : tie.After-judge-plane = search needs in
+    let after-of : tie.After-of = search needs in
+    let judged = rw (after-of .of .ensures) at (after-judge-plane .judge-plane .ensures) in
+    plane-asked _ _ _ (as-told (c .before .before .before .before .before .enum-told .given .1) judged)
 
 returns : tie.Need-returns
 returns c =
-    let start = c .before .before .before .before .before .before .before .before .before in
+    let after-judge-plane : tie.After-judge-plane = search needs in
+    let after-of : tie.After-of = search needs in
+    let start : tie.Start = search needs in
+    let judged = rw (after-of .of .ensures) at (after-judge-plane .judge-plane .ensures) in
     let m = mem (start .args .p0 .now) (start .args .p1 .now) (start .args .p2 .now) (start .args .p3 .now) (start .args .picture .now) in
-    store-refused m (start .args .plane) (start .args .offset .0) (start .args .byte) (c .before .before .before .judge-plane .ensures) (start .args .kind) _ (c .before .x .given .1)
+    store-refused m (start .args .plane) (start .args .offset .0) (start .args .byte) judged (start .args .kind) _ (c .before .x .given .1)
 
 same-length : tie.Need-same-length
 same-length c = search needs
@@ -43,14 +52,18 @@ same-length-5 c = search needs
 
 returns-2 : tie.Need-returns-2
 returns-2 c =
-    let start = c .before .before .before .before .before .before .before .before .before .before .before .before .before .before .before .before .before .before .before .before .before .before .before .before in
+    let after-judge-plane : tie.After-judge-plane = search needs in
+    let after-of : tie.After-of = search needs in
+    let start : tie.Start = search needs in
+    let judged = rw (after-of .of .ensures) at (after-judge-plane .judge-plane .ensures) in
     let m = mem (start .args .p0 .now) (start .args .p1 .now) (start .args .p2 .now) (start .args .p3 .now) (start .args .picture .now) in
-    store-done m (start .args .plane) (start .args .offset .0) (start .args .byte) (c .before .before .before .before .before .before .before .before .before .before .before .before .before .before .before .before .before .before .judge-plane .ensures) (start .args .kind) _ (c .before .before .before .before .before .before .before .before .before .before .before .before .before .before .before .before .enum-told .given .1) (search needs) (c .before .before .before .before .before .before .before .before .before .before .store .ensures)
+    store-done m (start .args .plane) (start .args .offset .0) (start .args .byte) judged (start .args .kind) _ (c .before .before .before .before .before .before .before .before .before .before .before .before .before .before .before .before .enum-told .given .1) (search needs) (c .before .before .before .before .before .before .before .before .before .before .store .ensures)
 
 pub plane-store-spec : {M : Type 1} → statement M
 plane-store-spec =
     tie.close
     (tie.spec
+    of-requires
     judge-plane-requires
     enum-known-x
     enum-told

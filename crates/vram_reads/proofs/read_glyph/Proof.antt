@@ -10,6 +10,9 @@ use Rattle.refusals_memory.proofs.Told.{as-told}
 use Rattle.vram_reads.proofs.read_glyph.Statement.{statement}
 use Rattle.vram_reads.proofs.read_glyph.Tie as tie
 
+of-requires : tie.Need-of-requires
+of-requires c κs = search needs
+
 judge-offset-requires : tie.Need-judge-offset-requires
 judge-offset-requires c κs = search needs
 
@@ -21,19 +24,28 @@ enum-told c = search needs
 
 shared-slice-read-t18 : tie.Need-shared-slice-read-t18
 shared-slice-read-t18 c =
-    let h = offset-accepted _ _ (sym (as-told (c .before .enum-told .given .1) (c .before .before .before .judge-offset .ensures))) in omega arith
+    let after-judge-offset : tie.After-judge-offset = search needs in
+    let after-of : tie.After-of = search needs in
+    let judged = rw (after-of .of .ensures) at (after-judge-offset .judge-offset .ensures) in
+    let h = offset-accepted _ _ (sym (as-told (c .before .enum-told .given .1) judged)) in omega arith
 
 returns : tie.Need-returns
 unfolding vramStep vramPlan valueOf
 returns c =
-    perform-refused _ _ _ _ (refusal-some (c .before .x .given .0 .0)) (as-told (c .before .x .given .1) (c .before .before .before .judge-offset .ensures)) refl
+    let after-judge-offset : tie.After-judge-offset = search needs in
+    let after-of : tie.After-of = search needs in
+    let judged = rw (after-of .of .ensures) at (after-judge-offset .judge-offset .ensures) in
+    perform-refused _ _ _ _ (refusal-some (c .before .x .given .0 .0)) (as-told (c .before .x .given .1) judged) refl
 
 returns-2 : tie.Need-returns-2
 unfolding vramStep vramPlan memoryAfter valueOf
 returns-2 c =
-    perform-done _ _ _ _ (as-told (c .before .enum-told .given .1) (c .before .before .before .judge-offset .ensures)) refl refl
+    let after-judge-offset : tie.After-judge-offset = search needs in
+    let after-of : tie.After-of = search needs in
+    let judged = rw (after-of .of .ensures) at (after-judge-offset .judge-offset .ensures) in
+    perform-done _ _ _ _ (as-told (c .before .enum-told .given .1) judged) refl refl
 
 pub read-glyph-spec : {M : Type 1} → statement M
 read-glyph-spec =
     tie.close
-    (tie.spec judge-offset-requires enum-known-x enum-told shared-slice-read-t18 returns returns-2)
+    (tie.spec of-requires judge-offset-requires enum-known-x enum-told shared-slice-read-t18 returns returns-2)

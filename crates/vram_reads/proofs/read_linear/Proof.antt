@@ -9,6 +9,9 @@ use Rattle.refusals_memory.proofs.Told.{as-told}
 use Rattle.vram_reads.proofs.read_linear.Statement.{statement}
 use Rattle.vram_reads.proofs.read_linear.Tie as tie
 
+of-requires : tie.Need-of-requires
+of-requires c κs = search needs
+
 judge-place-requires : tie.Need-judge-place-requires
 judge-place-requires c κs = search needs
 
@@ -20,19 +23,28 @@ enum-told c = search needs
 
 shared-slice-read-t18 : tie.Need-shared-slice-read-t18
 shared-slice-read-t18 c =
-    place-accepted _ _ (sym (as-told (c .before .enum-told .given .1) (c .before .before .before .judge-place .ensures))) .place
+    let after-judge-place : tie.After-judge-place = search needs in
+    let after-of : tie.After-of = search needs in
+    let judged = rw (after-of .of .ensures) at (after-judge-place .judge-place .ensures) in
+    place-accepted _ _ (sym (as-told (c .before .enum-told .given .1) judged)) .place
 
 returns : tie.Need-returns
 unfolding vramStep vramPlan valueOf
 returns c =
-    perform-refused _ _ _ _ (refusal-some (c .before .x .given .0 .0)) (as-told (c .before .x .given .1) (c .before .before .before .judge-place .ensures)) refl
+    let after-judge-place : tie.After-judge-place = search needs in
+    let after-of : tie.After-of = search needs in
+    let judged = rw (after-of .of .ensures) at (after-judge-place .judge-place .ensures) in
+    perform-refused _ _ _ _ (refusal-some (c .before .x .given .0 .0)) (as-told (c .before .x .given .1) judged) refl
 
 returns-2 : tie.Need-returns-2
 unfolding vramStep vramPlan memoryAfter valueOf
 returns-2 c =
-    perform-done _ _ _ _ (as-told (c .before .enum-told .given .1) (c .before .before .before .judge-place .ensures)) refl refl
+    let after-judge-place : tie.After-judge-place = search needs in
+    let after-of : tie.After-of = search needs in
+    let judged = rw (after-of .of .ensures) at (after-judge-place .judge-place .ensures) in
+    perform-done _ _ _ _ (as-told (c .before .enum-told .given .1) judged) refl refl
 
 pub read-linear-spec : {M : Type 1} → statement M
 read-linear-spec =
     tie.close
-    (tie.spec judge-place-requires enum-known-x enum-told shared-slice-read-t18 returns returns-2)
+    (tie.spec of-requires judge-place-requires enum-known-x enum-told shared-slice-read-t18 returns returns-2)

@@ -11,6 +11,9 @@ use Rattle.vram_reads.proofs.Laws.{plane-asked}
 use Rattle.vram_reads.proofs.read_u8.Statement.{statement}
 use Rattle.vram_reads.proofs.read_u8.Tie as tie
 
+of-requires : tie.Need-of-requires
+of-requires c κs = search needs
+
 judge-plane-requires : tie.Need-judge-plane-requires
 judge-plane-requires c κs = search needs
 
@@ -22,19 +25,28 @@ enum-told c = search needs
 
 byte-requires : tie.Need-byte-requires
 byte-requires c κs =
-    plane-asked _ _ _ (as-told (c .enum-told .given .1) (c .before .before .judge-plane .ensures))
+    let after-judge-plane : tie.After-judge-plane = search needs in
+    let after-of : tie.After-of = search needs in
+    let judged = rw (after-of .of .ensures) at (after-judge-plane .judge-plane .ensures) in
+    plane-asked _ _ _ (as-told (c .enum-told .given .1) judged)
 
 returns : tie.Need-returns
 unfolding vramStep vramPlan valueOf
 returns c =
-    perform-refused _ _ _ _ (refusal-some (c .before .x .given .0 .0)) (as-told (c .before .x .given .1) (c .before .before .before .judge-plane .ensures)) refl
+    let after-judge-plane : tie.After-judge-plane = search needs in
+    let after-of : tie.After-of = search needs in
+    let judged = rw (after-of .of .ensures) at (after-judge-plane .judge-plane .ensures) in
+    perform-refused _ _ _ _ (refusal-some (c .before .x .given .0 .0)) (as-told (c .before .x .given .1) judged) refl
 
 returns-2 : tie.Need-returns-2
 unfolding vramStep vramPlan memoryAfter valueOf
 returns-2 c =
-    perform-done _ _ _ _ (as-told (c .before .enum-told .given .1) (c .before .before .before .judge-plane .ensures)) refl (ap one (c .byte .ensures))
+    let after-judge-plane : tie.After-judge-plane = search needs in
+    let after-of : tie.After-of = search needs in
+    let judged = rw (after-of .of .ensures) at (after-judge-plane .judge-plane .ensures) in
+    perform-done _ _ _ _ (as-told (c .before .enum-told .given .1) judged) refl (ap one (c .byte .ensures))
 
 pub read-u8-spec : {M : Type 1} → statement M
 read-u8-spec =
     tie.close
-    (tie.spec judge-plane-requires enum-known-x enum-told byte-requires returns returns-2)
+    (tie.spec of-requires judge-plane-requires enum-known-x enum-told byte-requires returns returns-2)

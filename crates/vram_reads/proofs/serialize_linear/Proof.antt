@@ -10,6 +10,9 @@ use Rattle.refusals_memory.proofs.Told.{as-told}
 use Rattle.vram_reads.proofs.serialize_linear.Statement.{statement}
 use Rattle.vram_reads.proofs.serialize_linear.Tie as tie
 
+of-requires : tie.Need-of-requires
+of-requires c κs = search needs
+
 judge-shown-requires : tie.Need-judge-shown-requires
 judge-shown-requires c κs = search needs
 
@@ -33,22 +36,32 @@ enum-told c = search needs
 
 eight-requires : tie.Need-eight-requires
 eight-requires c κs =
-    let h = shown-accepted _ _ (sym (as-told (c .enum-told .given .1) (c .before .before .judge-shown .ensures))) in (omega arith, omega arith)
+    let after-judge-shown : tie.After-judge-shown = search needs in
+    let after-of : tie.After-of = search needs in
+    let judged = rw (after-of .of .ensures) at (after-judge-shown .judge-shown .ensures) in
+    let h = shown-accepted _ _ (sym (as-told (c .enum-told .given .1) judged)) in (omega arith, omega arith)
 
 returns : tie.Need-returns
 unfolding vramStep vramPlan valueOf
 returns c =
-    perform-refused _ _ _ _ (rw (c .before .refusal-number .ensures) (refusal-some (c .before .before .before .x .given .0 .0))) (c .before .refusal-number .ensures ∙ as-told (c .before .before .before .x .given .1) (c .before .before .before .before .before .judge-shown .ensures)) refl
+    let after-judge-shown : tie.After-judge-shown = search needs in
+    let after-of : tie.After-of = search needs in
+    let judged = rw (after-of .of .ensures) at (after-judge-shown .judge-shown .ensures) in
+    perform-refused _ _ _ _ (rw (c .before .refusal-number .ensures) (refusal-some (c .before .before .before .x .given .0 .0))) (c .before .refusal-number .ensures ∙ as-told (c .before .before .before .x .given .1) judged) refl
 
 returns-2 : tie.Need-returns-2
 unfolding vramStep vramPlan memoryAfter valueOf
 returns-2 c =
-    perform-done _ _ _ _ (as-told (c .before .enum-told .given .1) (c .before .before .before .judge-shown .ensures)) refl (rw (c .eight .ensures))
+    let after-judge-shown : tie.After-judge-shown = search needs in
+    let after-of : tie.After-of = search needs in
+    let judged = rw (after-of .of .ensures) at (after-judge-shown .judge-shown .ensures) in
+    perform-done _ _ _ _ (as-told (c .before .enum-told .given .1) judged) refl (rw (c .eight .ensures))
 
 pub serialize-linear-spec : {M : Type 1} → statement M
 serialize-linear-spec =
     tie.close
     (tie.spec
+    of-requires
     judge-shown-requires
     enum-known-x
     refusal-number-requires

@@ -10,6 +10,9 @@ use borrow.Author.Needs.{needs}
 use Rattle.graphics_controller.proofs.access.cpu_read_u8.Statement.{statement}
 use Rattle.graphics_controller.proofs.access.cpu_read_u8.Tie as tie
 
+of-requires : tie.Need-of-requires
+of-requires c κs = search needs
+
 fits-both-requires : tie.Need-fits-both-requires
 fits-both-requires c κs = search needs
 
@@ -33,29 +36,37 @@ enum-known-offset c = search needs
 
 load-requires : tie.Need-load-requires
 load-requires c κs =
-    let a = c .before .before .before .before .before .before .before .before .before .before .before .before .before .before .args in
-    let j = judged (a .gc .registers) (a .seq) (mem (a .p0 .now) (a .p1 .now) (a .p2 .now) (a .p3 .now) (a .picture .now)) (a .address) (a .page) (c .before .before .before .judge-address .result) _ _ _ _ (c .before .before .before .before .before .before .before .fits-both .ensures) (c .before .before .before .before .before .before .shaped .ensures) (c .before .before .before .before .before .memory-map .ensures) (c .before .before .before .before .chain-odd-even .ensures) (c .before .before .before .judge-address .ensures) in
+    let after-of : tie.After-of = search needs in
+    let start : tie.Start = search needs in
+    let a = start .args in
+    let j = judged (a .gc .registers) (a .seq) (mem (a .p0 .now) (a .p1 .now) (a .p2 .now) (a .p3 .now) (a .picture .now)) (a .address) (a .page) (c .before .before .before .judge-address .result) _ _ _ _ _ (after-of .of .ensures) (c .before .before .before .before .before .before .before .fits-both .ensures) (c .before .before .before .before .before .before .shaped .ensures) (c .before .before .before .before .before .memory-map .ensures) (c .before .before .before .before .chain-odd-even .ensures) (c .before .before .before .judge-address .ensures) in
     let l = located _ _ _ _ (a0 (a .address)) j _ _ (c .before .offset .given .1) in
     let h = access-accepted (shape (mem (a .p0 .now) (a .p1 .now) (a .p2 .now) (a .p3 .now) (a .picture .now))) (a .gc .registers) (a .seq) (a .address) (a .page) (sym (l .accepted)) in
     (h .shaped, omega (arith, l .offset, h .offset))
 
 read-done-requires : tie.Need-read-done-requires
 read-done-requires c κs =
-    let a = c .before .before .before .before .before .before .before .before .before .before .before .before .before .before .before .args in
-    let j = judged (a .gc .registers) (a .seq) (mem (a .p0 .now) (a .p1 .now) (a .p2 .now) (a .p3 .now) (a .picture .now)) (a .address) (a .page) (c .before .before .before .before .judge-address .result) _ _ _ _ (c .before .before .before .before .before .before .before .before .fits-both .ensures) (c .before .before .before .before .before .before .before .shaped .ensures) (c .before .before .before .before .before .before .memory-map .ensures) (c .before .before .before .before .before .chain-odd-even .ensures) (c .before .before .before .before .judge-address .ensures) in
+    let after-of : tie.After-of = search needs in
+    let start : tie.Start = search needs in
+    let a = start .args in
+    let j = judged (a .gc .registers) (a .seq) (mem (a .p0 .now) (a .p1 .now) (a .p2 .now) (a .p3 .now) (a .picture .now)) (a .address) (a .page) (c .before .before .before .before .judge-address .result) _ _ _ _ _ (after-of .of .ensures) (c .before .before .before .before .before .before .before .before .fits-both .ensures) (c .before .before .before .before .before .before .before .shaped .ensures) (c .before .before .before .before .before .before .memory-map .ensures) (c .before .before .before .before .before .chain-odd-even .ensures) (c .before .before .before .before .judge-address .ensures) in
     let l = located _ _ _ _ (a0 (a .address)) j _ _ (c .before .before .offset .given .1) in
     map-select-fits (a .gc .registers) (access-fits (a .gc .registers) (a .seq) (shape (mem (a .p0 .now) (a .p1 .now) (a .p2 .now) (a .p3 .now) (a .picture .now))) (a .address) (a .page) (l .accepted) .0)
 
 returns : tie.Need-returns
 returns c =
-    let a = c .before .before .before .before .before .before .before .before .before .before .before .before .before .before .args in
-    let j = judged (a .gc .registers) (a .seq) (mem (a .p0 .now) (a .p1 .now) (a .p2 .now) (a .p3 .now) (a .picture .now)) (a .address) (a .page) (c .before .before .before .judge-address .result) _ _ _ _ (c .before .before .before .before .before .before .before .fits-both .ensures) (c .before .before .before .before .before .before .shaped .ensures) (c .before .before .before .before .before .memory-map .ensures) (c .before .before .before .before .chain-odd-even .ensures) (c .before .before .before .judge-address .ensures) in
+    let after-of : tie.After-of = search needs in
+    let start : tie.Start = search needs in
+    let a = start .args in
+    let j = judged (a .gc .registers) (a .seq) (mem (a .p0 .now) (a .p1 .now) (a .p2 .now) (a .p3 .now) (a .picture .now)) (a .address) (a .page) (c .before .before .before .judge-address .result) _ _ _ _ _ (after-of .of .ensures) (c .before .before .before .before .before .before .before .fits-both .ensures) (c .before .before .before .before .before .before .shaped .ensures) (c .before .before .before .before .before .memory-map .ensures) (c .before .before .before .before .chain-odd-even .ensures) (c .before .before .before .judge-address .ensures) in
     read-refused (a .gc) (a .seq) (mem (a .p0 .now) (a .p1 .now) (a .p2 .now) (a .p3 .now) (a .picture .now)) (a .address) (a .page) _ (refusal-some (c .before .x .given .0 .0)) (unlocated _ _ _ _ (a0 (a .address)) j _ (c .before .x .given .1))
 
 returns-2 : tie.Need-returns-2
 returns-2 c =
-    let a = c .before .before .before .before .before .before .before .before .before .before .before .before .before .before .before .before .args in
-    let j = judged (a .gc .registers) (a .seq) (mem (a .p0 .now) (a .p1 .now) (a .p2 .now) (a .p3 .now) (a .picture .now)) (a .address) (a .page) (c .before .before .before .before .before .judge-address .result) _ _ _ _ (c .before .before .before .before .before .before .before .before .before .fits-both .ensures) (c .before .before .before .before .before .before .before .before .shaped .ensures) (c .before .before .before .before .before .before .before .memory-map .ensures) (c .before .before .before .before .before .before .chain-odd-even .ensures) (c .before .before .before .before .before .judge-address .ensures) in
+    let after-of : tie.After-of = search needs in
+    let start : tie.Start = search needs in
+    let a = start .args in
+    let j = judged (a .gc .registers) (a .seq) (mem (a .p0 .now) (a .p1 .now) (a .p2 .now) (a .p3 .now) (a .picture .now)) (a .address) (a .page) (c .before .before .before .before .before .judge-address .result) _ _ _ _ _ (after-of .of .ensures) (c .before .before .before .before .before .before .before .before .before .fits-both .ensures) (c .before .before .before .before .before .before .before .before .shaped .ensures) (c .before .before .before .before .before .before .before .memory-map .ensures) (c .before .before .before .before .before .before .chain-odd-even .ensures) (c .before .before .before .before .before .judge-address .ensures) in
     let l = located _ _ _ _ (a0 (a .address)) j _ _ (c .before .before .before .offset .given .1) in
     read-done (a .gc) (a .seq) (mem (a .p0 .now) (a .p1 .now) (a .p2 .now) (a .p3 .now) (a .picture .now)) (a .address) (a .page) _ _ _ _ (l .accepted) (l .offset) (c .before .load .ensures) (c .read-done .ensures)
 
@@ -63,6 +74,7 @@ pub cpu-read-u8-spec : {M : Type 1} → statement M
 cpu-read-u8-spec =
     tie.close
     (tie.spec
+    of-requires
     fits-both-requires
     shaped-requires
     memory-map-requires

@@ -9,6 +9,9 @@ use Rattle.graphics_controller.proofs.Accesses.{show-accepted, show-ref
 use Rattle.graphics_controller.proofs.show.serialize.Statement.{statement}
 use Rattle.graphics_controller.proofs.show.serialize.Tie as tie
 
+of-requires : tie.Need-of-requires
+of-requires c κs = search needs
+
 judge-show-requires : tie.Need-judge-show-requires
 judge-show-requires c κs = search needs
 
@@ -32,20 +35,33 @@ enum-told c = search needs
 
 eight-requires : tie.Need-eight-requires
 eight-requires c κs =
-    let h = show-accepted (c .before .before .before .before .before .before .before .before .args .gc .registers) (c .before .before .before .before .before .before .before .before .args .seq) (mem (c .before .before .before .before .before .before .before .before .args .p0 .now) (c .before .before .before .before .before .before .before .before .args .p1 .now) (c .before .before .before .before .before .before .before .before .args .p2 .now) (c .before .before .before .before .before .before .before .before .args .p3 .now) (c .before .before .before .before .before .before .before .before .args .picture .now)) _ (as-told (c .enum-told .given .1) (c .before .before .judge-show .ensures)) in (omega arith, omega arith)
+    let after-judge-show : tie.After-judge-show = search needs in
+    let after-of : tie.After-of = search needs in
+    let start : tie.Start = search needs in
+    let judged = rw (after-of .of .ensures) at (after-judge-show .judge-show .ensures) in
+    let h = show-accepted (start .args .gc .registers) (start .args .seq) (mem (start .args .p0 .now) (start .args .p1 .now) (start .args .p2 .now) (start .args .p3 .now) (start .args .picture .now)) _ (as-told (c .enum-told .given .1) judged) in (omega arith, omega arith)
 
 returns : tie.Need-returns
 returns c =
-    show-refused (c .before .before .before .before .before .before .before .before .before .before .before .args .gc) (c .before .before .before .before .before .before .before .before .before .before .before .args .seq) (mem (c .before .before .before .before .before .before .before .before .before .before .before .args .p0 .now) (c .before .before .before .before .before .before .before .before .before .before .before .args .p1 .now) (c .before .before .before .before .before .before .before .before .before .before .before .args .p2 .now) (c .before .before .before .before .before .before .before .before .before .before .before .args .p3 .now) (c .before .before .before .before .before .before .before .before .before .before .before .args .picture .now)) _ _ (rw (c .before .refusal-number .ensures) (refusal-some (c .before .before .before .x .given .0 .0))) (c .before .refusal-number .ensures ∙ as-told (c .before .before .before .x .given .1) (c .before .before .before .before .before .judge-show .ensures))
+    let after-judge-show : tie.After-judge-show = search needs in
+    let after-of : tie.After-of = search needs in
+    let start : tie.Start = search needs in
+    let judged = rw (after-of .of .ensures) at (after-judge-show .judge-show .ensures) in
+    show-refused (start .args .gc) (start .args .seq) (mem (start .args .p0 .now) (start .args .p1 .now) (start .args .p2 .now) (start .args .p3 .now) (start .args .picture .now)) _ _ (rw (c .before .refusal-number .ensures) (refusal-some (c .before .before .before .x .given .0 .0))) (c .before .refusal-number .ensures ∙ as-told (c .before .before .before .x .given .1) judged)
 
 returns-2 : tie.Need-returns-2
 returns-2 c =
-    show-done (c .before .before .before .before .before .before .before .before .before .args .gc) (c .before .before .before .before .before .before .before .before .before .args .seq) (mem (c .before .before .before .before .before .before .before .before .before .args .p0 .now) (c .before .before .before .before .before .before .before .before .before .args .p1 .now) (c .before .before .before .before .before .before .before .before .before .args .p2 .now) (c .before .before .before .before .before .before .before .before .before .args .p3 .now) (c .before .before .before .before .before .before .before .before .before .args .picture .now)) _ _ (as-told (c .before .enum-told .given .1) (c .before .before .before .judge-show .ensures)) (c .eight .ensures)
+    let after-judge-show : tie.After-judge-show = search needs in
+    let after-of : tie.After-of = search needs in
+    let start : tie.Start = search needs in
+    let judged = rw (after-of .of .ensures) at (after-judge-show .judge-show .ensures) in
+    show-done (start .args .gc) (start .args .seq) (mem (start .args .p0 .now) (start .args .p1 .now) (start .args .p2 .now) (start .args .p3 .now) (start .args .picture .now)) _ _ (as-told (c .before .enum-told .given .1) judged) (c .eight .ensures)
 
 pub serialize-spec : {M : Type 1} → statement M
 serialize-spec =
     tie.close
     (tie.spec
+    of-requires
     judge-show-requires
     enum-known-x
     refusal-number-requires

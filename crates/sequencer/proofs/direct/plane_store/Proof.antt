@@ -6,6 +6,9 @@ use Rattle.sequencer.proofs.DirectLaws.{store-refused, store-done}
 use Rattle.sequencer.proofs.direct.plane_store.Statement.{statement}
 use Rattle.sequencer.proofs.direct.plane_store.Tie as tie
 
+of-requires : tie.Need-of-requires
+of-requires c κs = search needs
+
 judge-direct-requires : tie.Need-judge-direct-requires
 judge-direct-requires c κs = search needs
 
@@ -17,17 +20,23 @@ enum-told c = search needs
 
 store-masked-requires : tie.Need-store-masked-requires
 store-masked-requires c κs =
-    let start = c .before .before .before .before .before .before .before .before .before .before .before .before .before in
+    let after-judge-direct : tie.After-judge-direct = search needs in
+    let after-of : tie.After-of = search needs in
+    let start : tie.Start = search needs in
+    let judged = rw (after-of .of .ensures) at (after-judge-direct .judge-direct .ensures) in
     let m = mem (start .args .p0 .now) (start .args .p1 .now) (start .args .p2 .now) (start .args .p3 .now) (start .args .picture .now) in
-    let a = accepted (start .args .seq) m (start .args .plane) (start .args .offset .0) (c .before .before .before .before .before .before .before .judge-direct .ensures) (c .before .before .before .before .before .enum-told .given .1) in
+    let a = accepted (start .args .seq) m (start .args .plane) (start .args .offset .0) judged (c .before .before .before .before .before .enum-told .given .1) in
     let h = a .1 in
     (h .shaped, (h .offset, (h .plane, a .0)))
 
 returns : tie.Need-returns
 returns c =
-    let start = c .before .before .before .before .before .before .before .before .before in
+    let after-judge-direct : tie.After-judge-direct = search needs in
+    let after-of : tie.After-of = search needs in
+    let start : tie.Start = search needs in
+    let judged = rw (after-of .of .ensures) at (after-judge-direct .judge-direct .ensures) in
     let m = mem (start .args .p0 .now) (start .args .p1 .now) (start .args .p2 .now) (start .args .p3 .now) (start .args .picture .now) in
-    store-refused (start .args .seq) m (start .args .plane) (start .args .offset .0) (start .args .a0) (start .args .byte) (c .before .before .before .judge-direct .ensures)
+    store-refused (start .args .seq) m (start .args .plane) (start .args .offset .0) (start .args .a0) (start .args .byte) judged
     (start .args .kind) _ (c .before .x .given .1)
 
 same-length : tie.Need-same-length
@@ -47,15 +56,19 @@ same-length-5 c = search needs
 
 returns-2 : tie.Need-returns-2
 returns-2 c =
-    let start = c .before .before .before .before .before .before .before .before .before .before .before .before .before .before .before .before .before .before .before .before .before .before .before .before in
+    let after-judge-direct : tie.After-judge-direct = search needs in
+    let after-of : tie.After-of = search needs in
+    let start : tie.Start = search needs in
+    let judged = rw (after-of .of .ensures) at (after-judge-direct .judge-direct .ensures) in
     let m = mem (start .args .p0 .now) (start .args .p1 .now) (start .args .p2 .now) (start .args .p3 .now) (start .args .picture .now) in
-    store-done (start .args .seq) m (start .args .plane) (start .args .offset .0) (start .args .a0) (start .args .byte) (c .before .before .before .before .before .before .before .before .before .before .before .before .before .before .before .before .before .before .judge-direct .ensures)
+    store-done (start .args .seq) m (start .args .plane) (start .args .offset .0) (start .args .a0) (start .args .byte) judged
     (start .args .kind) _ (c .before .before .before .before .before .before .before .before .before .before .before .before .before .before .before .before .enum-told .given .1) (c .before .before .before .before .before .before .before .before .before .before .store-masked .ensures)
 
 pub plane-store-spec : {M : Type 1} → statement M
 plane-store-spec =
     tie.close
     (tie.spec
+    of-requires
     judge-direct-requires
     enum-known-x
     enum-told
