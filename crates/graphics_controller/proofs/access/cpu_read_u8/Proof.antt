@@ -1,7 +1,7 @@
 -- `cpu_read_u8` answers as the machine: refused by the judge's number, else from the latches that it loads, with one counter raised.
-use Rattle.graphics_controller.proofs.Accesses.{judged, located, unlocated, access-fits, read-refused, read-done}
+use Rattle.graphics_controller.proofs.Accesses.{JudgedAddress, judged, located, unlocated, access-fits, read-refused, read-done}
 use Rattle.refusals_records.proofs.Held.{map-select-fits}
-use Rattle.machine.specs.Memory.{mem, shape}
+use Rattle.machine.specs.Memory.{Memory, mem, shape}
 use Rattle.machine.proofs.Laws.{refusal-some, access-accepted}
 use Rattle.machine.specs.Address.{a0}
 use mathlib.Core.Path.{sym}
@@ -9,6 +9,31 @@ use native.Mathlib.Omega.{arith}
 use borrow.Author.Needs.{needs}
 use Rattle.graphics_controller.proofs.access.cpu_read_u8.Statement.{statement}
 use Rattle.graphics_controller.proofs.access.cpu_read_u8.Tie as tie
+
+-- from where the address is judged back to the walk's start
+start-of : tie.After-judge-address → tie.Start
+start-of after-judge-address = search needs
+
+-- the memory lent to the call
+abbrev lent-to : tie.Start → Memory
+lent-to start = let a = start .args in mem (a .p0 .now) (a .p1 .now) (a .p2 .now) (a .p3 .now) (a .picture .now)
+
+-- what the judge answered is what the machine says of the address
+address-judged : (after-judge-address : tie.After-judge-address)
+    → let start = start-of after-judge-address in let a = start .args in
+    JudgedAddress (a .gc .registers) (a .seq) (lent-to start) (a .address) (a .page) (after-judge-address .judge-address .result)
+unfolding start-of
+address-judged after-judge-address =
+    let after-chain-odd-even : tie.After-chain-odd-even = search needs in
+    let after-memory-map : tie.After-memory-map = search needs in
+    let after-shaped : tie.After-shaped = search needs in
+    let after-fits-both : tie.After-fits-both = search needs in
+    let after-of : tie.After-of = search needs in
+    let start = start-of after-judge-address in
+    let a = start .args in
+    judged (a .gc .registers) (a .seq) (lent-to start) (a .address) (a .page) (after-judge-address .judge-address .result) _ _ _ _ _ (after-of .of .ensures)
+    (after-fits-both .fits-both .ensures) (after-shaped .shaped .ensures) (after-memory-map .memory-map .ensures) (after-chain-odd-even .chain-odd-even .ensures)
+    (after-judge-address .judge-address .ensures)
 
 of-requires : tie.Need-of-requires
 of-requires c κs = search needs
@@ -35,40 +60,49 @@ enum-known-offset : tie.Need-enum-known-offset
 enum-known-offset c = search needs
 
 load-requires : tie.Need-load-requires
+unfolding start-of
 load-requires c κs =
-    let after-of : tie.After-of = search needs in
-    let start : tie.Start = search needs in
+    let after-offset : tie.After-offset = search needs in
+    let after-judge-address : tie.After-judge-address = search needs in
+    let start = start-of after-judge-address in
     let a = start .args in
-    let j = judged (a .gc .registers) (a .seq) (mem (a .p0 .now) (a .p1 .now) (a .p2 .now) (a .p3 .now) (a .picture .now)) (a .address) (a .page) (c .before .before .before .judge-address .result) _ _ _ _ _ (after-of .of .ensures) (c .before .before .before .before .before .before .before .fits-both .ensures) (c .before .before .before .before .before .before .shaped .ensures) (c .before .before .before .before .before .memory-map .ensures) (c .before .before .before .before .chain-odd-even .ensures) (c .before .before .before .judge-address .ensures) in
-    let l = located _ _ _ _ (a0 (a .address)) j _ _ (c .before .offset .given .1) in
-    let h = access-accepted (shape (mem (a .p0 .now) (a .p1 .now) (a .p2 .now) (a .p3 .now) (a .picture .now))) (a .gc .registers) (a .seq) (a .address) (a .page) (sym (l .accepted)) in
+    let m = lent-to start in
+    let l = located _ _ _ _ (a0 (a .address)) (address-judged after-judge-address) _ _ (after-offset .offset .given .1) in
+    let h = access-accepted (shape m) (a .gc .registers) (a .seq) (a .address) (a .page) (sym (l .accepted)) in
     (h .shaped, omega (arith, l .offset, h .offset))
 
 read-done-requires : tie.Need-read-done-requires
+unfolding start-of
 read-done-requires c κs =
-    let after-of : tie.After-of = search needs in
-    let start : tie.Start = search needs in
+    let after-offset : tie.After-offset = search needs in
+    let after-judge-address : tie.After-judge-address = search needs in
+    let start = start-of after-judge-address in
     let a = start .args in
-    let j = judged (a .gc .registers) (a .seq) (mem (a .p0 .now) (a .p1 .now) (a .p2 .now) (a .p3 .now) (a .picture .now)) (a .address) (a .page) (c .before .before .before .before .judge-address .result) _ _ _ _ _ (after-of .of .ensures) (c .before .before .before .before .before .before .before .before .fits-both .ensures) (c .before .before .before .before .before .before .before .shaped .ensures) (c .before .before .before .before .before .before .memory-map .ensures) (c .before .before .before .before .before .chain-odd-even .ensures) (c .before .before .before .before .judge-address .ensures) in
-    let l = located _ _ _ _ (a0 (a .address)) j _ _ (c .before .before .offset .given .1) in
-    map-select-fits (a .gc .registers) (access-fits (a .gc .registers) (a .seq) (shape (mem (a .p0 .now) (a .p1 .now) (a .p2 .now) (a .p3 .now) (a .picture .now))) (a .address) (a .page) (l .accepted) .0)
+    let m = lent-to start in
+    let l = located _ _ _ _ (a0 (a .address)) (address-judged after-judge-address) _ _ (after-offset .offset .given .1) in
+    let fit = access-fits (a .gc .registers) (a .seq) (shape m) (a .address) (a .page) (l .accepted) in
+    map-select-fits (a .gc .registers) (fit .0)
 
 returns : tie.Need-returns
+unfolding start-of
 returns c =
-    let after-of : tie.After-of = search needs in
-    let start : tie.Start = search needs in
+    let after-x : tie.After-x = search needs in
+    let after-judge-address : tie.After-judge-address = search needs in
+    let start = start-of after-judge-address in
     let a = start .args in
-    let j = judged (a .gc .registers) (a .seq) (mem (a .p0 .now) (a .p1 .now) (a .p2 .now) (a .p3 .now) (a .picture .now)) (a .address) (a .page) (c .before .before .before .judge-address .result) _ _ _ _ _ (after-of .of .ensures) (c .before .before .before .before .before .before .before .fits-both .ensures) (c .before .before .before .before .before .before .shaped .ensures) (c .before .before .before .before .before .memory-map .ensures) (c .before .before .before .before .chain-odd-even .ensures) (c .before .before .before .judge-address .ensures) in
-    read-refused (a .gc) (a .seq) (mem (a .p0 .now) (a .p1 .now) (a .p2 .now) (a .p3 .now) (a .picture .now)) (a .address) (a .page) _ (refusal-some (c .before .x .given .0 .0)) (unlocated _ _ _ _ (a0 (a .address)) j _ (c .before .x .given .1))
+    let n = unlocated _ _ _ _ (a0 (a .address)) (address-judged after-judge-address) _ (after-x .x .given .1) in
+    read-refused (a .gc) (a .seq) (lent-to start) (a .address) (a .page) _ (refusal-some (after-x .x .given .0 .0)) n
 
 returns-2 : tie.Need-returns-2
+unfolding start-of
 returns-2 c =
-    let after-of : tie.After-of = search needs in
-    let start : tie.Start = search needs in
+    let after-offset : tie.After-offset = search needs in
+    let after-judge-address : tie.After-judge-address = search needs in
+    let start = start-of after-judge-address in
     let a = start .args in
-    let j = judged (a .gc .registers) (a .seq) (mem (a .p0 .now) (a .p1 .now) (a .p2 .now) (a .p3 .now) (a .picture .now)) (a .address) (a .page) (c .before .before .before .before .before .judge-address .result) _ _ _ _ _ (after-of .of .ensures) (c .before .before .before .before .before .before .before .before .before .fits-both .ensures) (c .before .before .before .before .before .before .before .before .shaped .ensures) (c .before .before .before .before .before .before .before .memory-map .ensures) (c .before .before .before .before .before .before .chain-odd-even .ensures) (c .before .before .before .before .before .judge-address .ensures) in
-    let l = located _ _ _ _ (a0 (a .address)) j _ _ (c .before .before .before .offset .given .1) in
-    read-done (a .gc) (a .seq) (mem (a .p0 .now) (a .p1 .now) (a .p2 .now) (a .p3 .now) (a .picture .now)) (a .address) (a .page) _ _ _ _ (l .accepted) (l .offset) (c .before .load .ensures) (c .read-done .ensures)
+    let m = lent-to start in
+    let l = located _ _ _ _ (a0 (a .address)) (address-judged after-judge-address) _ _ (after-offset .offset .given .1) in
+    read-done (a .gc) (a .seq) m (a .address) (a .page) _ _ _ _ (l .accepted) (l .offset) (c .before .load .ensures) (c .read-done .ensures)
 
 pub cpu-read-u8-spec : {M : Type 1} → statement M
 cpu-read-u8-spec =
