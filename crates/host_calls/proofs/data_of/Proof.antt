@@ -14,7 +14,9 @@ unknown-controller-requires c κs = search needs
 
 returns : tie.Need-returns
 returns c =
-    c .unknown-controller .ensures ∙ graphics-unknown (c .before .before .before .args .gc) (one 0) _ (unknown-of (c .before .if1 .taken) (c .before .before .known-controller .ensures)) _ refl
+    let after-known-controller : tie.After-known-controller = search needs in
+    let start : tie.Start = search needs in
+    c .unknown-controller .ensures ∙ graphics-unknown (start .args .gc) (one 0) _ (unknown-of (c .before .if1 .taken) (after-known-controller .known-controller .ensures)) _ refl
 
 to-controller-requires : tie.Need-to-controller-requires
 to-controller-requires c κs = search needs
@@ -27,7 +29,12 @@ of-graphics-done-requires c κs = search needs
 
 returns-2 : tie.Need-returns-2
 returns-2 c =
-    graphics-known (c .before .before .before .before .before .args .gc) (one 0) _ (known-of (c .before .before .before .if1 .left) (c .before .before .before .before .known-controller .ensures)) _ (c .before .before .to-controller .ensures) _ _ _ (c .of-graphics-done .ensures) (c .before .write-data .ensures)
+    let after-to-controller : tie.After-to-controller = search needs in
+    let else1 : tie.Else1 = search needs in
+    let after-known-controller : tie.After-known-controller = search needs in
+    let start : tie.Start = search needs in
+    graphics-known (start .args .gc) (one 0) _ (known-of (else1 .if1 .left) (after-known-controller .known-controller .ensures)) _ (after-to-controller .to-controller .ensures) _ _
+    _ (c .of-graphics-done .ensures) (c .before .write-data .ensures)
 
 pub data-of-spec : {M : Type 1} → statement M
 data-of-spec =

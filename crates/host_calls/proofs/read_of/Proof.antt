@@ -14,9 +14,12 @@ unknown-controller-requires c κs = search needs
 
 returns : tie.Need-returns
 returns c =
-    let a = c .before .before .before .before .before .before .before .before .args in
+    let after-known : tie.After-known = search needs in
+    let start : tie.Start = search needs in
+    let a = start .args in
+    let m = mem (a .p0 .now) (a .p1 .now) (a .p2 .now) (a .p3 .now) (a .picture .now) in
     let e = c .unknown-controller .ensures in
-    cpu-unknown (a .gc) (a .seq) (mem (a .p0 .now) (a .p1 .now) (a .p2 .now) (a .p3 .now) (a .picture .now)) (one 0) _ (unknown-of (c .before .if1 .taken) (c .before .before .known .ensures)) _ _ (said-of e) (left-of e)
+    cpu-unknown (a .gc) (a .seq) m (one 0) _ (unknown-of (c .before .if1 .taken) (after-known .known .ensures)) _ _ (said-of e) (left-of e)
 
 to-controller-requires : tie.Need-to-controller-requires
 to-controller-requires c κs = search needs
@@ -38,8 +41,18 @@ of-controller-requires c κs = search needs
 
 returns-2 : tie.Need-returns-2
 returns-2 c =
-    let a = c .before .before .before .before .before .before .before .before .before .before .before .before .before .before .args in
-    rw (← c .before .before .before .before .is-set .ensures) (cpu-known (a .gc) (a .seq) (mem (a .p0 .now) (a .p1 .now) (a .p2 .now) (a .p3 .now) (a .picture .now)) (one 0) _ (known-of (c .before .before .before .before .before .before .before .if1 .left) (c .before .before .before .before .before .before .before .before .known .ensures)) _ _ (c .before .before .before .before .before .before .to-controller .ensures) (c .before .before .before .before .before .to-sequencer .ensures) _ _ _ _ _ (c .before .of-byte .ensures) (c .of-controller .ensures) (c .before .before .before .cpu-read-u8 .ensures))
+    let after-cpu-read-u8 = c .before .before .before in
+    let after-is-set = after-cpu-read-u8 .before in
+    let after-to-sequencer = after-is-set .before in
+    let after-to-controller = after-to-sequencer .before in
+    let else1 = after-to-controller .before in
+    let after-known = else1 .before in
+    let start = after-known .before .before .before .before .before .before in
+    let a = start .args in
+    let m = mem (a .p0 .now) (a .p1 .now) (a .p2 .now) (a .p3 .now) (a .picture .now) in
+    rw (← after-is-set .is-set .ensures) (cpu-known (a .gc) (a .seq) m (one 0) _ (known-of (else1 .if1 .left) (after-known .known .ensures)) _ _
+    (after-to-controller .to-controller .ensures) (after-to-sequencer .to-sequencer .ensures) _ _ _ _ _ (c .before .of-byte .ensures) (c .of-controller .ensures)
+    (after-cpu-read-u8 .cpu-read-u8 .ensures))
 
 pub read-of-spec : {M : Type 1} → statement M
 read-of-spec =

@@ -21,7 +21,11 @@ of-controller-requires c κs = search needs
 
 returns : tie.Need-returns
 returns c =
-    rw (c .before .done .ensures, c .of-controller .ensures, ← c .before .before .before .to-controller .ensures) (ap (λ (o : Outcome GraphicsController). outcome (o .answer) (controllerRecordOf (c .before .before .before .before .args .gc .spare) (o .next))) (c .before .before .reset .ensures))
+    let after-reset : tie.After-reset = search needs in
+    let after-to-controller : tie.After-to-controller = search needs in
+    let start : tie.Start = search needs in
+    rw (c .before .done .ensures, c .of-controller .ensures, ← after-to-controller .to-controller .ensures)
+    (ap (λ (o : Outcome GraphicsController). outcome (o .answer) (controllerRecordOf (start .args .gc .spare) (o .next))) (after-reset .reset .ensures))
 
 pub reset-of-spec : {M : Type 1} → statement M
 reset-of-spec =

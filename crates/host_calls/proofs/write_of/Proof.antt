@@ -17,9 +17,13 @@ unknown-counters-requires c κs = search needs
 
 returns : tie.Need-returns
 returns c =
-    let a = c .before .before .before .before .before .before .before .before .args in
+    let after-known : tie.After-known = search needs in
+    let start : tie.Start = search needs in
+    let a = start .args in
+    let m = mem (a .p0 .now) (a .p1 .now) (a .p2 .now) (a .p3 .now) (a .picture .now) in
     let e = c .unknown-counters .ensures in
-    cpu-unknown (a .gc) (a .seq) (mem (a .p0 .now) (a .p1 .now) (a .p2 .now) (a .p3 .now) (a .picture .now)) (one 0) _ (unknown-of (c .before .if1 .taken) (c .before .before .known .ensures)) _ _ (said-of e) (ap (λ (t : StatsRecord). withStats t (a .gc)) (left-of e))
+    cpu-unknown (a .gc) (a .seq) m (one 0) _ (unknown-of (c .before .if1 .taken) (after-known .known .ensures)) _ _ (said-of e)
+    (ap (λ (t : StatsRecord). withStats t (a .gc)) (left-of e))
 
 to-controller-requires : tie.Need-to-controller-requires
 to-controller-requires c κs = search needs
@@ -53,8 +57,17 @@ same-length-5 c = search needs
 
 returns-2 : tie.Need-returns-2
 returns-2 c =
-    let a = c .before .before .before .before .before .before .before .before .before .before .before .before .before .before .before .before .before .before .before .before .before .before .before .before .before .before .before .args in
-    rw (← c .before .before .before .before .before .before .before .before .before .before .before .before .before .before .before .before .before .is-set .ensures) (cpu-wrote (a .gc) (a .seq) (mem (a .p0 .now) (a .p1 .now) (a .p2 .now) (a .p3 .now) (a .picture .now)) (one 0) (a .address) _ (a .byte) (known-of (c .before .before .before .before .before .before .before .before .before .before .before .before .before .before .before .before .before .before .before .before .if1 .left) (c .before .before .before .before .before .before .before .before .before .before .before .before .before .before .before .before .before .before .before .before .before .known .ensures)) _ _ (c .before .before .before .before .before .before .before .before .before .before .before .before .before .before .before .before .before .before .before .to-controller .ensures) (c .before .before .before .before .before .before .before .before .before .before .before .before .before .before .before .before .before .before .to-sequencer .ensures) _ _ _ _ _ (c .of-cpu-store .ensures) (c .before .before .before .before .before .before .before .before .before .before .before .cpu-write-u8 .ensures))
+    let after-cpu-write-u8 = c .before .before .before .before .before .before .before .before .before .before .before in
+    let after-is-set = after-cpu-write-u8 .before .before .before .before .before .before in
+    let after-to-sequencer = after-is-set .before in
+    let after-to-controller = after-to-sequencer .before in
+    let else1 = after-to-controller .before in
+    let after-known = else1 .before in
+    let start = after-known .before .before .before .before .before .before in
+    let a = start .args in
+    let m = mem (a .p0 .now) (a .p1 .now) (a .p2 .now) (a .p3 .now) (a .picture .now) in
+    rw (← after-is-set .is-set .ensures) (cpu-wrote (a .gc) (a .seq) m (one 0) (a .address) _ (a .byte) (known-of (else1 .if1 .left) (after-known .known .ensures)) _ _
+    (after-to-controller .to-controller .ensures) (after-to-sequencer .to-sequencer .ensures) _ _ _ _ _ (c .of-cpu-store .ensures) (after-cpu-write-u8 .cpu-write-u8 .ensures))
 
 pub write-of-spec : {M : Type 1} → statement M
 write-of-spec =
