@@ -31,7 +31,7 @@ pub fn done() -> Answer
 pub fn unknown() -> Answer
     ensures { λ r. ⌜ r ≡ answerOf 6 0 ⌝ }
 {
-    given(6, 0)
+    refused(Refusal::State)
 }
 
 pub fn refused(refusal: Refusal) -> Answer

@@ -5,6 +5,7 @@ ghost use Rattle.machine.specs.Answers.{clockSaid, mappedSaid, partSaid};
 ghost use Rattle.answers.specs.Wide.{clockAnswerSaid, mappedAnswerSaid, shownOf};
 use types::ClockAnswer;
 use types::MappedAnswer;
+use types::Refusal;
 
 // The character clock.
 #[repr(C)]
@@ -64,7 +65,7 @@ pub fn unknown_shown() -> Shown
     ensures { λ r. ⌜ r ≡ shownOf (partSaid 6 []) ⌝ }
 {
     Shown {
-        number: 6,
+        number: fields::refusal_number(Refusal::State),
         pixels: [0u8; 8],
     }
 }

@@ -26,6 +26,8 @@ use host_records::record::known_controller;
 use host_records::record::of_controller;
 use host_records::record::to_controller;
 use types::GraphicsController;
+use types::MappedAnswer;
+use types::Refusal;
 
 // The start record; the host's own byte is 0.
 #[no_mangle]
@@ -138,11 +140,7 @@ pub extern "C" fn iddesmar_gc_map_address(gc: ControllerRecord, address: usize, 
     ensures { λ r. ⌜ outcome (mappedAnswerSaid r) gc ≡ graphicsHosted gc (two 0 0) (gcMapAddress address (isSet page)) ⌝ }
 {
     if !known_controller(gc) {
-        return Mapped {
-            offset: 0,
-            number: 6,
-            a0: 0,
-        };
+        return of_mapped(MappedAnswer::Refused(Refusal::State));
     }
     let controller = to_controller(gc);
     let high = is_set(page);

@@ -22,6 +22,8 @@ use host_records::record::SequencerRecord;
 use host_records::record::known_sequencer;
 use host_records::record::of_sequencer;
 use host_records::record::to_sequencer;
+use types::ClockAnswer;
+use types::Refusal;
 use types::Sequencer;
 
 // The start record.
@@ -49,10 +51,7 @@ pub extern "C" fn iddesmar_seq_clock(seq: SequencerRecord) -> Clock
     ensures { λ r. ⌜ clockAnswerSaid r ≡ sequencerHosted seq (one 0) seqClock .answer ⌝ }
 {
     if !known_sequencer(seq) {
-        return Clock {
-            clock: 0,
-            number: 6,
-        };
+        return of_clock(ClockAnswer::Refused(Refusal::State));
     }
     of_clock(sequencer::clock(to_sequencer(seq)))
 }

@@ -7,10 +7,11 @@ ghost use Rattle.machine.specs.Step.{state};
 ghost use Rattle.tape_machine.specs.Told.{toldSaid};
 ghost use Rattle.tape_machine.specs.Run.{operationNumber, faultSaid, recordsOf, linesOf, tapeRun, endedOf, playedOf, runOf};
 use crate::lines::line;
+use answers::refused;
 use tape_calls::perform;
-use tape_machine::Handed;
 use tape_machine::Ran;
 use tape_machine::Told;
+use tape_machine::of_answer;
 use tape_records::Command;
 use tape_records::Fault;
 use tape_records::Operation;
@@ -55,18 +56,9 @@ fn of_fault(fault: Fault) -> Told
     ensures { λ r. ⌜ toldSaid r ≡ faultSaid fault ⌝ }
 {
     match fault {
-        Fault::Open => Told {
-            number: 7,
-            handed: Handed::Byte(0),
-        },
-        Fault::Damage => Told {
-            number: 7,
-            handed: Handed::Byte(0),
-        },
-        Fault::Range => Told {
-            number: 8,
-            handed: Handed::Byte(0),
-        },
+        Fault::Open => of_answer(refused(Refusal::Damaged)),
+        Fault::Damage => of_answer(refused(Refusal::Damaged)),
+        Fault::Range => of_answer(refused(Refusal::Range)),
     }
 }
 

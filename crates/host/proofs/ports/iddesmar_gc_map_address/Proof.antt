@@ -1,5 +1,4 @@
 -- Refusal 6 where a number selects no register, else as `map_address` of the record that is meant.
-use mathlib.Core.Path.{refl}
 use Rattle.machine.specs.Answers.{two}
 use Rattle.host_calls.proofs.Laws.{unknown-of, known-of, graphics-unknown, graphics-asked}
 use borrow.Author.Needs.{needs}
@@ -9,9 +8,12 @@ use Rattle.host.proofs.ports.iddesmar_gc_map_address.Tie as tie
 known-controller-requires : tie.Need-known-controller-requires
 known-controller-requires c κs = search needs
 
+of-mapped-requires : tie.Need-of-mapped-requires
+of-mapped-requires c κs = search needs
+
 returns : tie.Need-returns
 returns c =
-    graphics-unknown (c .before .before .args .gc) (two 0 0) _ (unknown-of (c .if1 .taken) (c .before .known-controller .ensures)) _ refl
+    graphics-unknown (c .before .before .before .args .gc) (two 0 0) _ (unknown-of (c .before .if1 .taken) (c .before .before .known-controller .ensures)) _ (c .of-mapped .ensures)
 
 to-controller-requires : tie.Need-to-controller-requires
 to-controller-requires c κs = search needs
@@ -22,21 +24,22 @@ is-set-requires c κs = search needs
 map-address-requires : tie.Need-map-address-requires
 map-address-requires c κs = search needs
 
-of-mapped-requires : tie.Need-of-mapped-requires
-of-mapped-requires c κs = search needs
+of-mapped-requires-2 : tie.Need-of-mapped-requires-2
+of-mapped-requires-2 c κs = search needs
 
 returns-2 : tie.Need-returns-2
 returns-2 c =
-    rw (← c .before .before .is-set .ensures) (graphics-asked (c .before .before .before .before .before .before .args .gc) (two 0 0) _ (known-of (c .before .before .before .before .if1 .left) (c .before .before .before .before .before .known-controller .ensures)) _ (c .before .before .before .to-controller .ensures) _ _ (c .of-mapped .ensures) (c .before .map-address .ensures))
+    rw (← c .before .before .is-set .ensures) (graphics-asked (c .before .before .before .before .before .before .args .gc) (two 0 0) _ (known-of (c .before .before .before .before .if1 .left) (c .before .before .before .before .before .known-controller .ensures)) _ (c .before .before .before .to-controller .ensures) _ _ (c .of-mapped2 .ensures) (c .before .map-address .ensures))
 
 pub iddesmar-gc-map-address-spec : {M : Type 1} → statement M
 iddesmar-gc-map-address-spec =
     tie.close
     (tie.spec
     known-controller-requires
+    of-mapped-requires
     returns
     to-controller-requires
     is-set-requires
     map-address-requires
-    of-mapped-requires
+    of-mapped-requires-2
     returns-2)

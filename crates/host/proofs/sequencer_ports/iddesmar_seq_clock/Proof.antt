@@ -1,5 +1,4 @@
 -- Refusal 6 where a number selects no register, else as `clock` of the record that is meant.
-use mathlib.Core.Path.{refl}
 use Rattle.machine.specs.Answers.{one}
 use Rattle.host_calls.proofs.Laws.{unknown-of, known-of, asked-unknown, asked-known}
 use borrow.Author.Needs.{needs}
@@ -9,9 +8,12 @@ use Rattle.host.proofs.sequencer_ports.iddesmar_seq_clock.Tie as tie
 known-sequencer-requires : tie.Need-known-sequencer-requires
 known-sequencer-requires c κs = search needs
 
+of-clock-requires : tie.Need-of-clock-requires
+of-clock-requires c κs = search needs
+
 returns : tie.Need-returns
 returns c =
-    asked-unknown (c .before .before .args .seq) (one 0) _ (unknown-of (c .if1 .taken) (c .before .known-sequencer .ensures)) _ refl
+    asked-unknown (c .before .before .before .args .seq) (one 0) _ (unknown-of (c .before .if1 .taken) (c .before .before .known-sequencer .ensures)) _ (c .of-clock .ensures)
 
 to-sequencer-requires : tie.Need-to-sequencer-requires
 to-sequencer-requires c κs = search needs
@@ -19,20 +21,21 @@ to-sequencer-requires c κs = search needs
 clock-requires : tie.Need-clock-requires
 clock-requires c κs = search needs
 
-of-clock-requires : tie.Need-of-clock-requires
-of-clock-requires c κs = search needs
+of-clock-requires-2 : tie.Need-of-clock-requires-2
+of-clock-requires-2 c κs = search needs
 
 returns-2 : tie.Need-returns-2
 returns-2 c =
-    asked-known (c .before .before .before .before .before .args .seq) (one 0) _ (known-of (c .before .before .before .if1 .left) (c .before .before .before .before .known-sequencer .ensures)) _ (c .before .before .to-sequencer .ensures) _ _ (c .of-clock .ensures) (c .before .clock .ensures)
+    asked-known (c .before .before .before .before .before .args .seq) (one 0) _ (known-of (c .before .before .before .if1 .left) (c .before .before .before .before .known-sequencer .ensures)) _ (c .before .before .to-sequencer .ensures) _ _ (c .of-clock2 .ensures) (c .before .clock .ensures)
 
 pub iddesmar-seq-clock-spec : {M : Type 1} → statement M
 iddesmar-seq-clock-spec =
     tie.close
     (tie.spec
     known-sequencer-requires
+    of-clock-requires
     returns
     to-sequencer-requires
     clock-requires
-    of-clock-requires
+    of-clock-requires-2
     returns-2)
