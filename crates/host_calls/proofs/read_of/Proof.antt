@@ -6,6 +6,10 @@ use borrow.Author.Needs.{needs}
 use Rattle.host_calls.proofs.read_of.Statement.{statement}
 use Rattle.host_calls.proofs.read_of.Tie as tie
 
+-- stations further back than a search from the walk's end goes
+start-of : tie.After-known → tie.Start
+start-of after-known = search needs
+
 known-requires : tie.Need-known-requires
 known-requires c κs = search needs
 
@@ -40,14 +44,15 @@ of-controller-requires : tie.Need-of-controller-requires
 of-controller-requires c κs = search needs
 
 returns-2 : tie.Need-returns-2
+unfolding start-of
 returns-2 c =
-    let after-cpu-read-u8 = c .before .before .before in
+    let after-cpu-read-u8 : tie.After-cpu-read-u8 = search needs in
     let after-is-set = after-cpu-read-u8 .before in
     let after-to-sequencer = after-is-set .before in
     let after-to-controller = after-to-sequencer .before in
     let else1 = after-to-controller .before in
     let after-known = else1 .before in
-    let start = after-known .before .before .before .before .before .before in
+    let start = start-of after-known in
     let a = start .args in
     let m = mem (a .p0 .now) (a .p1 .now) (a .p2 .now) (a .p3 .now) (a .picture .now) in
     rw (← after-is-set .is-set .ensures) (cpu-known (a .gc) (a .seq) m (one 0) _ (known-of (else1 .if1 .left) (after-known .known .ensures)) _ _

@@ -9,6 +9,13 @@ use borrow.Author.Needs.{needs}
 use Rattle.host_calls.proofs.write_of.Statement.{statement}
 use Rattle.host_calls.proofs.write_of.Tie as tie
 
+-- stations further back than a search from the walk's end goes
+start-of : tie.After-known → tie.Start
+start-of after-known = search needs
+
+is-set-of : tie.After-cpu-write-u8 → tie.After-is-set
+is-set-of after-cpu-write-u8 = search needs
+
 known-requires : tie.Need-known-requires
 known-requires c κs = search needs
 
@@ -56,14 +63,15 @@ same-length-5 : tie.Need-same-length-5
 same-length-5 c = search needs
 
 returns-2 : tie.Need-returns-2
+unfolding start-of is-set-of
 returns-2 c =
-    let after-cpu-write-u8 = c .before .before .before .before .before .before .before .before .before .before .before in
-    let after-is-set = after-cpu-write-u8 .before .before .before .before .before .before in
+    let after-cpu-write-u8 : tie.After-cpu-write-u8 = search needs in
+    let after-is-set = is-set-of after-cpu-write-u8 in
     let after-to-sequencer = after-is-set .before in
     let after-to-controller = after-to-sequencer .before in
     let else1 = after-to-controller .before in
     let after-known = else1 .before in
-    let start = after-known .before .before .before .before .before .before in
+    let start = start-of after-known in
     let a = start .args in
     let m = mem (a .p0 .now) (a .p1 .now) (a .p2 .now) (a .p3 .now) (a .picture .now) in
     rw (← after-is-set .is-set .ensures) (cpu-wrote (a .gc) (a .seq) m (one 0) (a .address) _ (a .byte) (known-of (else1 .if1 .left) (after-known .known .ensures)) _ _

@@ -42,13 +42,14 @@ returns c =
 
 returns-2 : tie.Need-returns-2
 returns-2 c =
+    let after-enum-told : tie.After-enum-told = search needs in
     let after-judge-direct : tie.After-judge-direct = search needs in
     let after-of : tie.After-of = search needs in
     let start : tie.Start = search needs in
     let judged = rw (after-of .of .ensures) at (after-judge-direct .judge-direct .ensures) in
     let m = mem (start .args .p0 .now) (start .args .p1 .now) (start .args .p2 .now) (start .args .p3 .now) (start .args .picture .now) in
-    read-done (start .args .seq) m (start .args .plane) (start .args .offset .0) (start .args .a0) judged
-    (start .args .kind) _ _ (c .before .before .enum-told .given .1) (c .before .read-at .ensures) (c .byte .ensures)
+    read-done (start .args .seq) m (start .args .plane) (start .args .offset .0) (start .args .a0) judged (start .args .kind) _ _ (after-enum-told .enum-told .given .1)
+    (c .before .read-at .ensures) (c .byte .ensures)
 
 pub plane-read-spec : {M : Type 1} → statement M
 plane-read-spec =

@@ -20,7 +20,9 @@ read-linear-requires c κs = search needs
 
 returns-2 : tie.Need-returns-2
 unfolding directStep directPlan vramStep vramPlan
-returns-2 c = rw (sym (c .before .before .fits-seq .ensures) ∙ not-false _ (c .before .if1 .left)) (c .read-linear .ensures)
+returns-2 c =
+    let after-fits-seq : tie.After-fits-seq = search needs in
+    rw (sym (after-fits-seq .fits-seq .ensures) ∙ not-false _ (c .before .if1 .left)) (c .read-linear .ensures)
 
 pub read-linear-spec : {M : Type 1} → statement M
 read-linear-spec = tie.close (tie.spec fits-seq-requires returns read-linear-requires returns-2)

@@ -26,7 +26,9 @@ part-result-end c = search needs
 returns : tie.Need-returns
 unfolding directStep directPlan perform valueOf
 returns c =
-    rw (c .before .refusal-number .ensures, sym (c .before .before .before .fits-seq .ensures) ∙ not-true _ (c .before .before .if1 .taken))
+    let then1 : tie.Then1 = search needs in
+    let after-fits-seq : tie.After-fits-seq = search needs in
+    rw (c .before .refusal-number .ensures, sym (after-fits-seq .fits-seq .ensures) ∙ not-true _ (then1 .if1 .taken))
 
 serialize-linear-requires : tie.Need-serialize-linear-requires
 serialize-linear-requires c κs = search needs
@@ -34,7 +36,9 @@ serialize-linear-requires c κs = search needs
 returns-2 : tie.Need-returns-2
 unfolding directStep directPlan vramStep vramPlan
 returns-2 c =
-    rw (sym (c .before .before .before .fits-seq .ensures) ∙ not-false _ (c .before .before .if1 .left)) (c .serialize-linear .ensures)
+    let else1 : tie.Else1 = search needs in
+    let after-fits-seq : tie.After-fits-seq = search needs in
+    rw (sym (after-fits-seq .fits-seq .ensures) ∙ not-false _ (else1 .if1 .left)) (c .serialize-linear .ensures)
 
 pub serialize-linear-spec : {M : Type 1} → statement M
 serialize-linear-spec =

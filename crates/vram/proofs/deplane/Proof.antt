@@ -43,10 +43,12 @@ same-length c = search needs
 returns-2 : tie.Need-returns-2
 unfolding vramStep vramPlan memoryAfter valueOf
 returns-2 c =
+    let after-remake : tie.After-remake = search needs in
+    let after-enum-told : tie.After-enum-told = search needs in
     let after-judge-offset : tie.After-judge-offset = search needs in
     let after-of : tie.After-of = search needs in
     let judged = rw (after-of .of .ensures) at (after-judge-offset .judge-offset .ensures) in
-    perform-done _ _ _ _ (as-told (c .before .before .before .before .enum-told .given .1) judged) (c .before .before .remake .ensures) refl
+    perform-done _ _ _ _ (as-told (after-enum-told .enum-told .given .1) judged) (after-remake .remake .ensures) refl
 
 pub deplane-spec : {M : Type 1} → statement M
 deplane-spec =

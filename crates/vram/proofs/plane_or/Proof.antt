@@ -26,7 +26,8 @@ same-length-5 c = search needs
 returns : tie.Need-returns
 unfolding vramStep vramPlan
 returns c =
-    c .before .before .before .before .before .before .before .before .before .before .plane-store .ensures
+    let after-plane-store : tie.After-plane-store = search needs in
+    after-plane-store .plane-store .ensures
 
 pub plane-or-spec : {M : Type 1} → statement M
 plane-or-spec =

@@ -21,10 +21,11 @@ enum-told c = search needs
 
 store-requires : tie.Need-store-requires
 store-requires c κs =
+    let after-enum-told : tie.After-enum-told = search needs in
     let after-judge-plane : tie.After-judge-plane = search needs in
     let after-of : tie.After-of = search needs in
     let judged = rw (after-of .of .ensures) at (after-judge-plane .judge-plane .ensures) in
-    plane-asked _ _ _ (as-told (c .before .before .before .before .before .enum-told .given .1) judged)
+    plane-asked _ _ _ (as-told (after-enum-told .enum-told .given .1) judged)
 
 returns : tie.Need-returns
 returns c =
@@ -52,12 +53,15 @@ same-length-5 c = search needs
 
 returns-2 : tie.Need-returns-2
 returns-2 c =
+    let after-store : tie.After-store = search needs in
+    let after-enum-told : tie.After-enum-told = search needs in
     let after-judge-plane : tie.After-judge-plane = search needs in
     let after-of : tie.After-of = search needs in
     let start : tie.Start = search needs in
     let judged = rw (after-of .of .ensures) at (after-judge-plane .judge-plane .ensures) in
     let m = mem (start .args .p0 .now) (start .args .p1 .now) (start .args .p2 .now) (start .args .p3 .now) (start .args .picture .now) in
-    store-done m (start .args .plane) (start .args .offset .0) (start .args .byte) judged (start .args .kind) _ (c .before .before .before .before .before .before .before .before .before .before .before .before .before .before .before .before .enum-told .given .1) (search needs) (c .before .before .before .before .before .before .before .before .before .before .store .ensures)
+    store-done m (start .args .plane) (start .args .offset .0) (start .args .byte) judged (start .args .kind) _ (after-enum-told .enum-told .given .1) (search needs)
+    (after-store .store .ensures)
 
 pub plane-store-spec : {M : Type 1} → statement M
 plane-store-spec =

@@ -26,7 +26,8 @@ same-length-5 c = search needs
 returns : tie.Need-returns
 unfolding vramStep vramPlan
 returns c =
-    c .before .before .before .before .before .before .before .before .before .before .plane-set .ensures
+    let after-plane-set : tie.After-plane-set = search needs in
+    after-plane-set .plane-set .ensures
 
 pub write-u8-spec : {M : Type 1} → statement M
 write-u8-spec =

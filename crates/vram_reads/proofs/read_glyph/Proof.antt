@@ -27,7 +27,8 @@ shared-slice-read-t18 c =
     let after-judge-offset : tie.After-judge-offset = search needs in
     let after-of : tie.After-of = search needs in
     let judged = rw (after-of .of .ensures) at (after-judge-offset .judge-offset .ensures) in
-    let h = offset-accepted _ _ (sym (as-told (c .before .enum-told .given .1) judged)) in omega arith
+    let h = offset-accepted _ _ (sym (as-told (c .before .enum-told .given .1) judged)) in
+    omega arith
 
 returns : tie.Need-returns
 unfolding vramStep vramPlan valueOf

@@ -39,15 +39,18 @@ eight-requires c κs =
     let after-judge-shown : tie.After-judge-shown = search needs in
     let after-of : tie.After-of = search needs in
     let judged = rw (after-of .of .ensures) at (after-judge-shown .judge-shown .ensures) in
-    let h = shown-accepted _ _ (sym (as-told (c .enum-told .given .1) judged)) in (omega arith, omega arith)
+    let h = shown-accepted _ _ (sym (as-told (c .enum-told .given .1) judged)) in
+    (omega arith, omega arith)
 
 returns : tie.Need-returns
 unfolding vramStep vramPlan valueOf
 returns c =
+    let after-x : tie.After-x = search needs in
     let after-judge-shown : tie.After-judge-shown = search needs in
     let after-of : tie.After-of = search needs in
     let judged = rw (after-of .of .ensures) at (after-judge-shown .judge-shown .ensures) in
-    perform-refused _ _ _ _ (rw (c .before .refusal-number .ensures) (refusal-some (c .before .before .before .x .given .0 .0))) (c .before .refusal-number .ensures ∙ as-told (c .before .before .before .x .given .1) judged) refl
+    perform-refused _ _ _ _ (rw (c .before .refusal-number .ensures) (refusal-some (after-x .x .given .0 .0)))
+    (c .before .refusal-number .ensures ∙ as-told (after-x .x .given .1) judged) refl
 
 returns-2 : tie.Need-returns-2
 unfolding vramStep vramPlan memoryAfter valueOf

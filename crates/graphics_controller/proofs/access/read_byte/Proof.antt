@@ -16,7 +16,9 @@ selected-plane-requires c κs = search needs
 
 array-read-result : tie.Need-array-read-result
 array-read-result c =
-    let h = select-small (c .before .before .before .args .registers) (c .before .before .before .args .address) (c .before .before .before .pre) in omega (arith, c .selected-plane .ensures)
+    let start : tie.Start = search needs in
+    let h = select-small (start .args .registers) (start .args .address) (start .pre) in
+    omega (arith, c .selected-plane .ensures)
 
 enum-told-2 : tie.Need-enum-told-2
 enum-told-2 c = search needs
@@ -27,7 +29,8 @@ pixel-op-compare-requires c κs = search needs
 returns : tie.Need-returns
 unfolding readByte
 returns c =
-    rw (c .before .enum-told .given .1) (ap (latch (c .before .before .before .args .t3)) (c .selected-plane .ensures))
+    let start : tie.Start = search needs in
+    rw (c .before .enum-told .given .1) (ap (latch (start .args .t3)) (c .selected-plane .ensures))
 
 returns-2 : tie.Need-returns-2
 unfolding readByte

@@ -13,7 +13,9 @@ counted-read-requires : tie.Need-counted-read-requires
 counted-read-requires c κs = search needs
 
 returns : tie.Need-returns
-returns c = simp (c .before .read-byte .ensures, c .counted-read .ensures, c .before .before .read-mode .ensures)
+returns c =
+    let after-read-mode : tie.After-read-mode = search needs in
+    simp (c .before .read-byte .ensures, c .counted-read .ensures, after-read-mode .read-mode .ensures)
 
 pub read-done-spec : {M : Type 1} → statement M
 read-done-spec =

@@ -17,9 +17,11 @@ counted-write-requires c κs = search needs
 
 returns : tie.Need-returns
 returns c =
-    let g = c .before .before .before .before .args .gc in
+    let after-write-mode : tie.After-write-mode = search needs in
+    let start : tie.Start = search needs in
+    let g = start .args .gc in
     ap (λ (s : GraphicsControllerStats). outcome (said 0 (one 0)) (gcOf (g .registers) s (g .latches)))
-    (c .before .counted-write .ensures ∙ ap (λ (w : WriteMode). counted (writeCounter w) (g .stats)) (c .before .before .write-mode .ensures))
+    (c .before .counted-write .ensures ∙ ap (λ (w : WriteMode). counted (writeCounter w) (g .stats)) (after-write-mode .write-mode .ensures))
 
 pub write-done-spec : {M : Type 1} → statement M
 write-done-spec = tie.close (tie.spec write-mode-requires counted-write-requires returns)

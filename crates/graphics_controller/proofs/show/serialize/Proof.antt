@@ -38,24 +38,30 @@ eight-requires c κs =
     let after-judge-show : tie.After-judge-show = search needs in
     let after-of : tie.After-of = search needs in
     let start : tie.Start = search needs in
+    let m = mem (start .args .p0 .now) (start .args .p1 .now) (start .args .p2 .now) (start .args .p3 .now) (start .args .picture .now) in
     let judged = rw (after-of .of .ensures) at (after-judge-show .judge-show .ensures) in
-    let h = show-accepted (start .args .gc .registers) (start .args .seq) (mem (start .args .p0 .now) (start .args .p1 .now) (start .args .p2 .now) (start .args .p3 .now) (start .args .picture .now)) _ (as-told (c .enum-told .given .1) judged) in (omega arith, omega arith)
+    let h = show-accepted (start .args .gc .registers) (start .args .seq) m _ (as-told (c .enum-told .given .1) judged) in
+    (omega arith, omega arith)
 
 returns : tie.Need-returns
 returns c =
+    let after-x : tie.After-x = search needs in
     let after-judge-show : tie.After-judge-show = search needs in
     let after-of : tie.After-of = search needs in
     let start : tie.Start = search needs in
+    let m = mem (start .args .p0 .now) (start .args .p1 .now) (start .args .p2 .now) (start .args .p3 .now) (start .args .picture .now) in
     let judged = rw (after-of .of .ensures) at (after-judge-show .judge-show .ensures) in
-    show-refused (start .args .gc) (start .args .seq) (mem (start .args .p0 .now) (start .args .p1 .now) (start .args .p2 .now) (start .args .p3 .now) (start .args .picture .now)) _ _ (rw (c .before .refusal-number .ensures) (refusal-some (c .before .before .before .x .given .0 .0))) (c .before .refusal-number .ensures ∙ as-told (c .before .before .before .x .given .1) judged)
+    show-refused (start .args .gc) (start .args .seq) m _ _ (rw (c .before .refusal-number .ensures) (refusal-some (after-x .x .given .0 .0)))
+    (c .before .refusal-number .ensures ∙ as-told (after-x .x .given .1) judged)
 
 returns-2 : tie.Need-returns-2
 returns-2 c =
     let after-judge-show : tie.After-judge-show = search needs in
     let after-of : tie.After-of = search needs in
     let start : tie.Start = search needs in
+    let m = mem (start .args .p0 .now) (start .args .p1 .now) (start .args .p2 .now) (start .args .p3 .now) (start .args .picture .now) in
     let judged = rw (after-of .of .ensures) at (after-judge-show .judge-show .ensures) in
-    show-done (start .args .gc) (start .args .seq) (mem (start .args .p0 .now) (start .args .p1 .now) (start .args .p2 .now) (start .args .p3 .now) (start .args .picture .now)) _ _ (as-told (c .before .enum-told .given .1) judged) (c .eight .ensures)
+    show-done (start .args .gc) (start .args .seq) m _ _ (as-told (c .before .enum-told .given .1) judged) (c .eight .ensures)
 
 pub serialize-spec : {M : Type 1} → statement M
 serialize-spec =

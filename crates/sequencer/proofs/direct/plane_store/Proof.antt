@@ -20,12 +20,13 @@ enum-told c = search needs
 
 store-masked-requires : tie.Need-store-masked-requires
 store-masked-requires c κs =
+    let after-enum-told : tie.After-enum-told = search needs in
     let after-judge-direct : tie.After-judge-direct = search needs in
     let after-of : tie.After-of = search needs in
     let start : tie.Start = search needs in
     let judged = rw (after-of .of .ensures) at (after-judge-direct .judge-direct .ensures) in
     let m = mem (start .args .p0 .now) (start .args .p1 .now) (start .args .p2 .now) (start .args .p3 .now) (start .args .picture .now) in
-    let a = accepted (start .args .seq) m (start .args .plane) (start .args .offset .0) judged (c .before .before .before .before .before .enum-told .given .1) in
+    let a = accepted (start .args .seq) m (start .args .plane) (start .args .offset .0) judged (after-enum-told .enum-told .given .1) in
     let h = a .1 in
     (h .shaped, (h .offset, (h .plane, a .0)))
 
@@ -36,8 +37,7 @@ returns c =
     let start : tie.Start = search needs in
     let judged = rw (after-of .of .ensures) at (after-judge-direct .judge-direct .ensures) in
     let m = mem (start .args .p0 .now) (start .args .p1 .now) (start .args .p2 .now) (start .args .p3 .now) (start .args .picture .now) in
-    store-refused (start .args .seq) m (start .args .plane) (start .args .offset .0) (start .args .a0) (start .args .byte) judged
-    (start .args .kind) _ (c .before .x .given .1)
+    store-refused (start .args .seq) m (start .args .plane) (start .args .offset .0) (start .args .a0) (start .args .byte) judged (start .args .kind) _ (c .before .x .given .1)
 
 same-length : tie.Need-same-length
 same-length c = search needs
@@ -56,13 +56,15 @@ same-length-5 c = search needs
 
 returns-2 : tie.Need-returns-2
 returns-2 c =
+    let after-store-masked : tie.After-store-masked = search needs in
+    let after-enum-told : tie.After-enum-told = search needs in
     let after-judge-direct : tie.After-judge-direct = search needs in
     let after-of : tie.After-of = search needs in
     let start : tie.Start = search needs in
     let judged = rw (after-of .of .ensures) at (after-judge-direct .judge-direct .ensures) in
     let m = mem (start .args .p0 .now) (start .args .p1 .now) (start .args .p2 .now) (start .args .p3 .now) (start .args .picture .now) in
-    store-done (start .args .seq) m (start .args .plane) (start .args .offset .0) (start .args .a0) (start .args .byte) judged
-    (start .args .kind) _ (c .before .before .before .before .before .before .before .before .before .before .before .before .before .before .before .before .enum-told .given .1) (c .before .before .before .before .before .before .before .before .before .before .store-masked .ensures)
+    store-done (start .args .seq) m (start .args .plane) (start .args .offset .0) (start .args .a0) (start .args .byte) judged (start .args .kind) _
+    (after-enum-told .enum-told .given .1) (after-store-masked .store-masked .ensures)
 
 pub plane-store-spec : {M : Type 1} → statement M
 plane-store-spec =

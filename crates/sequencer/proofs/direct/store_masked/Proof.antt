@@ -20,8 +20,9 @@ stored-at-requires c κs = search needs
 
 store-requires : tie.Need-store-requires
 store-requires c κs =
-    let start = c .before .before .before .before .before .before .before .before .before .before .before .before .before in
-    (start .pre .0, (stored-at-lt _ _ (c .before .before .before .before .before .stored-at .ensures) (start .pre .1 .0), start .pre .1 .1 .0))
+    let after-stored-at : tie.After-stored-at = search needs in
+    let start : tie.Start = search needs in
+    (start .pre .0, (stored-at-lt _ _ (after-stored-at .stored-at .ensures) (start .pre .1 .0), start .pre .1 .1 .0))
 
 same-length : tie.Need-same-length
 same-length c = search needs
@@ -40,14 +41,18 @@ same-length-5 c = search needs
 
 returns : tie.Need-returns
 returns c =
-    let start = c .before .before .before .before .before .before .before .before .before .before .before .before .before .before .before .before .before .before .before .before .before .before .before .before in
+    let after-store : tie.After-store = search needs in
+    let after-stored-at : tie.After-stored-at = search needs in
+    let then1 : tie.Then1 = search needs in
+    let after-mask : tie.After-mask = search needs in
+    let start : tie.Start = search needs in
     let m = mem (start .args .p0 .now) (start .args .p1 .now) (start .args .p2 .now) (start .args .p3 .now) (start .args .picture .now) in
     store-let (start .args .kind) (start .args .seq) m (start .args .plane) (start .args .offset) (start .args .a0) (start .args .byte) (start .pre .1 .1 .0) _
-    (mask-has _ _ _ _ _ (c .before .before .before .before .before .before .before .before .before .before .before .before .before .before .before .before .before .before .mask .ensures) (start .pre .1 .1 .0) (c .before .before .before .before .before .before .before .before .before .before .before .before .before .before .before .before .before .if1 .taken)) (c .before .before .before .before .before .before .before .before .before .before .before .before .before .before .before .before .stored-at .ensures) (search needs) (c .before .before .before .before .before .before .before .before .before .before .store .ensures)
+    (mask-has _ _ _ _ _ (after-mask .mask .ensures) (start .pre .1 .1 .0) (then1 .if1 .taken)) (after-stored-at .stored-at .ensures) (search needs) (after-store .store .ensures)
 
 returns-2 : tie.Need-returns-2
 returns-2 c =
-    let start = c .before .before .before .before .before .before .before in
+    let start : tie.Start = search needs in
     let m = mem (start .args .p0 .now) (start .args .p1 .now) (start .args .p2 .now) (start .args .p3 .now) (start .args .picture .now) in
     store-stopped (start .args .kind) (start .args .seq) m (start .args .plane) (start .args .offset) (start .args .a0) (start .args .byte) (start .pre .1 .1 .0)
     (mask-lacks _ _ _ _ _ (c .before .mask .ensures) (start .pre .1 .1 .0) (c .if1 .left))
