@@ -99,7 +99,8 @@ mul-value c =
     let at-loop : tie.At-loop Inv-loop μ-loop = search needs in
     omega (
       arith,
-      below _ _ _ _ _ _ _ _ (at-loop .loop .inv) (after-wide .wide .ensures) (in-loop .loop-test .taken) (c .before .if1 .left) (c .if2 .left) (omega (arith, after-shared-slice-known2 .shared-slice-known2 .given (at-loop .loop .at))),
+      below _ _ _ _ _ _ _ _ (at-loop .loop .inv) (after-wide .wide .ensures) (in-loop .loop-test .taken) (c .before .if1 .left) (c .if2 .left)
+          (omega (arith, after-shared-slice-known2 .shared-slice-known2 .given (at-loop .loop .at))),
     )
 
 add-value : tie.Need-add-value Inv-loop μ-loop
@@ -110,7 +111,8 @@ add-value c =
     let at-loop : tie.At-loop Inv-loop μ-loop = search needs in
     omega (
       arith,
-      below _ _ _ _ _ _ _ _ (at-loop .loop .inv) (after-wide .wide .ensures) (in-loop .loop-test .taken) (c .before .if1 .left) (c .if2 .left) (omega (arith, after-shared-slice-known2 .shared-slice-known2 .given (at-loop .loop .at))),
+      below _ _ _ _ _ _ _ _ (at-loop .loop .inv) (after-wide .wide .ensures) (in-loop .loop-test .taken) (c .before .if1 .left) (c .if2 .left)
+          (omega (arith, after-shared-slice-known2 .shared-slice-known2 .given (at-loop .loop .at))),
     )
 
 mul-weight : tie.Need-mul-weight Inv-loop μ-loop

@@ -21,7 +21,8 @@ enum-told-4 : tie.Need-enum-told-4
 enum-told-4 c = search needs
 
 -- in the arm of the function f
-at : (a : tie.Start) (f : LogicFunction) → a .args .function ≡ f → whole f (a .args .mask) (a .args .«data») (a .args .latch) ≡ byteOf (λ i. stepped (a .args .function) (bit i (a .args .mask)) (bit i (a .args .«data»)) (bit i (a .args .latch)))
+at : (a : tie.Start) (f : LogicFunction) → a .args .function ≡ f
+    → whole f (a .args .mask) (a .args .«data») (a .args .latch) ≡ byteOf (λ i. stepped (a .args .function) (bit i (a .args .mask)) (bit i (a .args .«data»)) (bit i (a .args .latch)))
 at a f e = rw e (whole-is (a .args .mask) (a .args .«data») (a .args .latch) (a .fits .mask .fits) (a .fits .«data» .fits) (a .fits .latch .fits) f)
 
 returns : tie.Need-returns

@@ -14,7 +14,8 @@ use Rattle.graphics_visits.proofs.inner.visit.Tie as tie
 
 abbrev Inv-loop : tie.InvT-loop
 Inv-loop p0₀ p1₀ p2₀ p3₀ picture planes bytes at plane₀ p0 p1 p2 p3 plane =
-    (plane ≤ 4) × ((length p0 ≡ length p0₀) × (Shaped (mem p0 p1 p2 p3 picture) × (mem p0 p1 p2 p3 picture ≡ laid at (below plane (λ p. isOne (bit p planes))) (latch bytes) (mem p0₀ p1₀ p2₀ p3₀ picture))))
+    let m = mem p0 p1 p2 p3 picture in
+    (plane ≤ 4) × ((length p0 ≡ length p0₀) × (Shaped m × (m ≡ laid at (below plane (λ p. isOne (bit p planes))) (latch bytes) (mem p0₀ p1₀ p2₀ p3₀ picture))))
 
 abbrev μ-loop : tie.MeasureT-loop
 μ-loop p0₀ p1₀ p2₀ p3₀ picture planes bytes at plane₀ p0 p1 p2 p3 plane = 4 - plane
@@ -44,16 +45,9 @@ loop-again c =
     let at-loop : tie.At-loop Inv-loop μ-loop = search needs in
     let start : tie.Start Inv-loop μ-loop = search needs in
     let a = start .args in
-    let m = mem (a .p0 .now) (a .p1 .now) (a .p2 .now) (a .p3 .now) (a .picture .now) in (
-      omega arith,
-      (
-        omega arith,
-        (
-          omega arith,
-          after-visit-plane .visit-plane .ensures ∙ turn (a .at) (λ p. isOne (bit p (a .planes))) (latch (a .bytes)) m _ (at-loop .loop .plane) (in-loop .loop-test .taken) (at-loop .loop .inv .1 .1 .1),
-        ),
-      ),
-    )
+    let m = mem (a .p0 .now) (a .p1 .now) (a .p2 .now) (a .p3 .now) (a .picture .now) in
+    let turned = turn (a .at) (λ p. isOne (bit p (a .planes))) (latch (a .bytes)) m _ (at-loop .loop .plane) (in-loop .loop-test .taken) (at-loop .loop .inv .1 .1 .1) in
+    (omega arith, (omega arith, (omega arith, after-visit-plane .visit-plane .ensures ∙ turned)))
 
 same-length : tie.Need-same-length Inv-loop μ-loop
 same-length c =

@@ -16,8 +16,12 @@ unknown-shown-requires c κs = search needs
 
 returns : tie.Need-returns
 returns c =
-    let a = c .before .before .before .before .before .before .before .before .args in
-    shown-of (said 6 (part [])) _ _ _ (c .unknown-shown .ensures) (cpu-unknown (a .gc) (a .seq) (mem (a .p0 .now) (a .p1 .now) (a .p2 .now) (a .p3 .now) (a .picture .now)) (part []) _ (unknown-of (c .before .if1 .taken) (c .before .before .known .ensures)) _ _ refl refl)
+    let after-known : tie.After-known = search needs in
+    let start : tie.Start = search needs in
+    let a = start .args in
+    let m = mem (a .p0 .now) (a .p1 .now) (a .p2 .now) (a .p3 .now) (a .picture .now) in
+    shown-of (said 6 (part [])) _ _ _ (c .unknown-shown .ensures)
+    (cpu-unknown (a .gc) (a .seq) m (part []) _ (unknown-of (c .before .if1 .taken) (after-known .known .ensures)) _ _ refl refl)
 
 to-controller-requires : tie.Need-to-controller-requires
 to-controller-requires c κs = search needs
@@ -33,8 +37,15 @@ of-part-requires c κs = search needs
 
 returns-2 : tie.Need-returns-2
 returns-2 c =
-    let a = c .before .before .before .before .before .before .before .before .before .before .before .before .args in
-    shown-of _ _ _ _ (c .of-part .ensures) (cpu-asked (a .gc) (a .seq) (mem (a .p0 .now) (a .p1 .now) (a .p2 .now) (a .p3 .now) (a .picture .now)) (part []) _ (known-of (c .before .before .before .before .before .if1 .left) (c .before .before .before .before .before .before .known .ensures)) _ _ (c .before .before .before .before .to-controller .ensures) (c .before .before .before .to-sequencer .ensures) _ _ refl (c .before .serialize .ensures))
+    let after-to-sequencer : tie.After-to-sequencer = search needs in
+    let after-to-controller : tie.After-to-controller = search needs in
+    let else1 : tie.Else1 = search needs in
+    let after-known : tie.After-known = search needs in
+    let start : tie.Start = search needs in
+    let a = start .args in
+    let m = mem (a .p0 .now) (a .p1 .now) (a .p2 .now) (a .p3 .now) (a .picture .now) in
+    shown-of _ _ _ _ (c .of-part .ensures) (cpu-asked (a .gc) (a .seq) m (part []) _ (known-of (else1 .if1 .left) (after-known .known .ensures)) _ _
+    (after-to-controller .to-controller .ensures) (after-to-sequencer .to-sequencer .ensures) _ _ refl (c .before .serialize .ensures))
 
 pub iddesmar-gc-serialize-spec : {M : Type 1} → statement M
 iddesmar-gc-serialize-spec =

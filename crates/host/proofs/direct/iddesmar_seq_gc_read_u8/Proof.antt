@@ -16,8 +16,11 @@ unknown-requires c κs = search needs
 
 returns : tie.Need-returns
 returns c =
-    let a = c .before .before .before .before .before .before .before .before .args in
-    direct-unknown (a .seq) (mem (a .p0 .now) (a .p1 .now) (a .p2 .now) (a .p3 .now) (a .picture .now)) (one 0) _ (unknown-of (c .before .if1 .taken) (c .before .before .known-sequencer .ensures)) _ (ap answerSaid (c .unknown .ensures))
+    let after-known-sequencer : tie.After-known-sequencer = search needs in
+    let start : tie.Start = search needs in
+    let a = start .args in
+    let m = mem (a .p0 .now) (a .p1 .now) (a .p2 .now) (a .p3 .now) (a .picture .now) in
+    direct-unknown (a .seq) m (one 0) _ (unknown-of (c .before .if1 .taken) (after-known-sequencer .known-sequencer .ensures)) _ (ap answerSaid (c .unknown .ensures))
 
 to-sequencer-requires : tie.Need-to-sequencer-requires
 to-sequencer-requires c κs = search needs
@@ -33,8 +36,15 @@ of-byte-requires c κs = search needs
 
 returns-2 : tie.Need-returns-2
 returns-2 c =
-    let a = c .before .before .before .before .before .before .before .before .before .before .before .args in
-    rw (← c .before .before .is-set .ensures) (direct-known (a .seq) (mem (a .p0 .now) (a .p1 .now) (a .p2 .now) (a .p3 .now) (a .picture .now)) (one 0) _ (known-of (c .before .before .before .before .if1 .left) (c .before .before .before .before .before .known-sequencer .ensures)) _ (c .before .before .before .to-sequencer .ensures) _ _ _ (c .of-byte .ensures) (c .before .gc-read-u8 .ensures))
+    let after-is-set : tie.After-is-set = search needs in
+    let after-to-sequencer : tie.After-to-sequencer = search needs in
+    let else1 : tie.Else1 = search needs in
+    let after-known-sequencer : tie.After-known-sequencer = search needs in
+    let start : tie.Start = search needs in
+    let a = start .args in
+    let m = mem (a .p0 .now) (a .p1 .now) (a .p2 .now) (a .p3 .now) (a .picture .now) in
+    rw (← after-is-set .is-set .ensures) (direct-known (a .seq) m (one 0) _ (known-of (else1 .if1 .left) (after-known-sequencer .known-sequencer .ensures)) _
+    (after-to-sequencer .to-sequencer .ensures) _ _ _ (c .of-byte .ensures) (c .before .gc-read-u8 .ensures))
 
 pub iddesmar-seq-gc-read-u8-spec : {M : Type 1} → statement M
 iddesmar-seq-gc-read-u8-spec =

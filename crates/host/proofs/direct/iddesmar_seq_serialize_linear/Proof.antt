@@ -16,8 +16,12 @@ unknown-shown-requires c κs = search needs
 
 returns : tie.Need-returns
 returns c =
-    let a = c .before .before .before .before .before .before .before .before .args in
-    shown-of (said 6 (part [])) _ _ _ (c .unknown-shown .ensures) (direct-unknown (a .seq) (mem (a .p0 .now) (a .p1 .now) (a .p2 .now) (a .p3 .now) (a .picture .now)) (part []) _ (unknown-of (c .before .if1 .taken) (c .before .before .known-sequencer .ensures)) _ refl)
+    let after-known-sequencer : tie.After-known-sequencer = search needs in
+    let start : tie.Start = search needs in
+    let a = start .args in
+    let m = mem (a .p0 .now) (a .p1 .now) (a .p2 .now) (a .p3 .now) (a .picture .now) in
+    shown-of (said 6 (part [])) _ _ _ (c .unknown-shown .ensures)
+    (direct-unknown (a .seq) m (part []) _ (unknown-of (c .before .if1 .taken) (after-known-sequencer .known-sequencer .ensures)) _ refl)
 
 to-sequencer-requires : tie.Need-to-sequencer-requires
 to-sequencer-requires c κs = search needs
@@ -30,8 +34,14 @@ of-part-requires c κs = search needs
 
 returns-2 : tie.Need-returns-2
 returns-2 c =
-    let a = c .before .before .before .before .before .before .before .before .before .before .before .args in
-    shown-of _ _ _ _ (c .of-part .ensures) (direct-known (a .seq) (mem (a .p0 .now) (a .p1 .now) (a .p2 .now) (a .p3 .now) (a .picture .now)) (part []) _ (known-of (c .before .before .before .before .if1 .left) (c .before .before .before .before .before .known-sequencer .ensures)) _ (c .before .before .before .to-sequencer .ensures) _ _ _ refl (c .before .serialize-linear .ensures))
+    let after-to-sequencer : tie.After-to-sequencer = search needs in
+    let else1 : tie.Else1 = search needs in
+    let after-known-sequencer : tie.After-known-sequencer = search needs in
+    let start : tie.Start = search needs in
+    let a = start .args in
+    let m = mem (a .p0 .now) (a .p1 .now) (a .p2 .now) (a .p3 .now) (a .picture .now) in
+    shown-of _ _ _ _ (c .of-part .ensures) (direct-known (a .seq) m (part []) _ (known-of (else1 .if1 .left) (after-known-sequencer .known-sequencer .ensures)) _
+    (after-to-sequencer .to-sequencer .ensures) _ _ _ refl (c .before .serialize-linear .ensures))
 
 pub iddesmar-seq-serialize-linear-spec : {M : Type 1} → statement M
 iddesmar-seq-serialize-linear-spec =

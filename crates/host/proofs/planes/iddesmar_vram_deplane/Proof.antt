@@ -14,7 +14,8 @@ same-length c = search needs
 
 returns : tie.Need-returns
 returns c =
-    rw (c .of-done .ensures) (c .before .before .before .deplane .ensures)
+    let after-deplane : tie.After-deplane = search needs in
+    rw (c .of-done .ensures) (after-deplane .deplane .ensures)
 
 pub iddesmar-vram-deplane-spec : {M : Type 1} → statement M
 iddesmar-vram-deplane-spec =

@@ -26,7 +26,8 @@ same-length-5 c = search needs
 
 returns : tie.Need-returns
 returns c =
-    rw (c .of-store .ensures) (c .before .before .before .before .before .before .before .before .before .before .before .plane-and .ensures)
+    let after-plane-and : tie.After-plane-and = search needs in
+    rw (c .of-store .ensures) (after-plane-and .plane-and .ensures)
 
 pub iddesmar-vram-plane-and-spec : {M : Type 1} → statement M
 iddesmar-vram-plane-and-spec =

@@ -26,7 +26,8 @@ same-length-5 c = search needs
 
 returns : tie.Need-returns
 returns c =
-    rw (c .of-store .ensures) (c .before .before .before .before .before .before .before .before .before .before .before .plane-or .ensures)
+    let after-plane-or : tie.After-plane-or = search needs in
+    rw (c .of-store .ensures) (after-plane-or .plane-or .ensures)
 
 pub iddesmar-vram-plane-or-spec : {M : Type 1} → statement M
 iddesmar-vram-plane-or-spec =

@@ -26,7 +26,8 @@ same-length-5 c = search needs
 
 returns : tie.Need-returns
 returns c =
-    rw (c .of-store .ensures) (c .before .before .before .before .before .before .before .before .before .before .before .plane-set .ensures)
+    let after-plane-set : tie.After-plane-set = search needs in
+    rw (c .of-store .ensures) (after-plane-set .plane-set .ensures)
 
 pub iddesmar-vram-plane-set-spec : {M : Type 1} → statement M
 iddesmar-vram-plane-set-spec =

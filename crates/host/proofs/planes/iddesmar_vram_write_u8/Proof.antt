@@ -26,7 +26,8 @@ same-length-5 c = search needs
 
 returns : tie.Need-returns
 returns c =
-    rw (c .of-store .ensures) (c .before .before .before .before .before .before .before .before .before .before .before .write-u8 .ensures)
+    let after-write-u8 : tie.After-write-u8 = search needs in
+    rw (c .of-store .ensures) (after-write-u8 .write-u8 .ensures)
 
 pub iddesmar-vram-write-u8-spec : {M : Type 1} → statement M
 iddesmar-vram-write-u8-spec =

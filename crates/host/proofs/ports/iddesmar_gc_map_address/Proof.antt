@@ -13,7 +13,9 @@ of-mapped-requires c κs = search needs
 
 returns : tie.Need-returns
 returns c =
-    graphics-unknown (c .before .before .before .args .gc) (two 0 0) _ (unknown-of (c .before .if1 .taken) (c .before .before .known-controller .ensures)) _ (c .of-mapped .ensures)
+    let after-known-controller : tie.After-known-controller = search needs in
+    let start : tie.Start = search needs in
+    graphics-unknown (start .args .gc) (two 0 0) _ (unknown-of (c .before .if1 .taken) (after-known-controller .known-controller .ensures)) _ (c .of-mapped .ensures)
 
 to-controller-requires : tie.Need-to-controller-requires
 to-controller-requires c κs = search needs
@@ -29,7 +31,13 @@ of-mapped-requires-2 c κs = search needs
 
 returns-2 : tie.Need-returns-2
 returns-2 c =
-    rw (← c .before .before .is-set .ensures) (graphics-asked (c .before .before .before .before .before .before .args .gc) (two 0 0) _ (known-of (c .before .before .before .before .if1 .left) (c .before .before .before .before .before .known-controller .ensures)) _ (c .before .before .before .to-controller .ensures) _ _ (c .of-mapped2 .ensures) (c .before .map-address .ensures))
+    let after-is-set : tie.After-is-set = search needs in
+    let after-to-controller : tie.After-to-controller = search needs in
+    let else1 : tie.Else1 = search needs in
+    let after-known-controller : tie.After-known-controller = search needs in
+    let start : tie.Start = search needs in
+    rw (← after-is-set .is-set .ensures) (graphics-asked (start .args .gc) (two 0 0) _ (known-of (else1 .if1 .left) (after-known-controller .known-controller .ensures)) _
+    (after-to-controller .to-controller .ensures) _ _ (c .of-mapped2 .ensures) (c .before .map-address .ensures))
 
 pub iddesmar-gc-map-address-spec : {M : Type 1} → statement M
 iddesmar-gc-map-address-spec =

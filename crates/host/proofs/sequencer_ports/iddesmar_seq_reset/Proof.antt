@@ -21,7 +21,10 @@ of-sequencer-requires c κs = search needs
 
 returns : tie.Need-returns
 returns c =
-    rw (c .before .done .ensures, c .of-sequencer .ensures, ← c .before .before .before .to-sequencer .ensures) (ap (λ (o : Outcome Sequencer). outcome (o .answer) (sequencerRecordOf (o .next))) (c .before .before .reset .ensures))
+    let after-reset : tie.After-reset = search needs in
+    let after-to-sequencer : tie.After-to-sequencer = search needs in
+    rw (c .before .done .ensures, c .of-sequencer .ensures, ← after-to-sequencer .to-sequencer .ensures)
+    (ap (λ (o : Outcome Sequencer). outcome (o .answer) (sequencerRecordOf (o .next))) (after-reset .reset .ensures))
 
 pub iddesmar-seq-reset-spec : {M : Type 1} → statement M
 iddesmar-seq-reset-spec =

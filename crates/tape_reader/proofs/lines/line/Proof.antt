@@ -10,30 +10,54 @@ cast-answer c = search needs
 
 field-requires : tie.Need-field-requires
 field-requires c κs =
-    room1 (c .before .before .before .args .number) (c .before .before .before .args .operation) (toldSaid (c .before .before .before .args .told)) (c .before .before .before .args .at) (c .before .before .before .args .out .now) (c .before .before .before .pre)
+    let start : tie.Start = search needs in
+    room1 (start .args .number) (start .args .operation) (toldSaid (start .args .told)) (start .args .at) (start .args .out .now) (start .pre)
 
 name-requires : tie.Need-name-requires
 name-requires c κs =
-    room2 (c .before .before .before .before .before .before .before .args .number) (c .before .before .before .before .before .before .before .args .operation) (toldSaid (c .before .before .before .before .before .before .before .args .told)) (c .before .before .before .before .before .before .before .args .at) _ (c .before .before .before .before .before .before .before .pre) (c .before .before .before .field .ensures)
+    let after-field : tie.After-field = search needs in
+    let start : tie.Start = search needs in
+    room2 (start .args .number) (start .args .operation) (toldSaid (start .args .told)) (start .args .at) _ (start .pre) (after-field .field .ensures)
 
 field-requires-2 : tie.Need-field-requires-2
 field-requires-2 c κs =
-    room3 (c .before .before .before .before .before .before .before .before .before .before .before .args .number) (c .before .before .before .before .before .before .before .before .before .before .before .args .operation) (toldSaid (c .before .before .before .before .before .before .before .before .before .before .before .args .told)) (c .before .before .before .before .before .before .before .before .before .before .before .args .at) _ (c .before .before .before .before .before .before .before .before .before .before .before .pre) (c .before .before .before .before .before .before .before .field .ensures) (c .before .before .before .name .ensures)
+    let after-name : tie.After-name = search needs in
+    let after-field : tie.After-field = search needs in
+    let start : tie.Start = search needs in
+    room3 (start .args .number) (start .args .operation) (toldSaid (start .args .told)) (start .args .at) _ (start .pre) (after-field .field .ensures) (after-name .name .ensures)
 
 value-requires : tie.Need-value-requires
 value-requires c κs =
-    room4 (c .before .before .before .before .before .before .before .before .before .before .before .before .before .before .before .args .number) (c .before .before .before .before .before .before .before .before .before .before .before .before .before .before .before .args .operation) (toldSaid (c .before .before .before .before .before .before .before .before .before .before .before .before .before .before .before .args .told)) (c .before .before .before .before .before .before .before .before .before .before .before .before .before .before .before .args .at) _ (c .before .before .before .before .before .before .before .before .before .before .before .before .before .before .before .pre) (c .before .before .before .before .before .before .before .before .before .before .before .field .ensures) (c .before .before .before .before .before .before .before .name .ensures) (c .before .before .before .field2 .ensures)
+    let after-field2 : tie.After-field2 = search needs in
+    let after-name : tie.After-name = search needs in
+    let after-field : tie.After-field = search needs in
+    let start : tie.Start = search needs in
+    room4 (start .args .number) (start .args .operation) (toldSaid (start .args .told)) (start .args .at) _ (start .pre) (after-field .field .ensures) (after-name .name .ensures)
+    (after-field2 .field2 .ensures)
 
 put-requires : tie.Need-put-requires
 put-requires c κs =
-    room5 (c .before .before .before .before .before .before .before .before .before .before .before .before .before .before .before .before .before .before .before .args .number) (c .before .before .before .before .before .before .before .before .before .before .before .before .before .before .before .before .before .before .before .args .operation) (toldSaid (c .before .before .before .before .before .before .before .before .before .before .before .before .before .before .before .before .before .before .before .args .told)) (c .before .before .before .before .before .before .before .before .before .before .before .before .before .before .before .before .before .before .before .args .at) _ (c .before .before .before .before .before .before .before .before .before .before .before .before .before .before .before .before .before .before .before .pre) (c .before .before .before .before .before .before .before .before .before .before .before .before .before .before .before .field .ensures) (c .before .before .before .before .before .before .before .before .before .before .before .name .ensures) (c .before .before .before .before .before .before .before .field2 .ensures) (c .before .before .before .value .ensures)
+    let after-value : tie.After-value = search needs in
+    let after-field2 : tie.After-field2 = search needs in
+    let after-name : tie.After-name = search needs in
+    let after-field : tie.After-field = search needs in
+    let start : tie.Start = search needs in
+    room5 (start .args .number) (start .args .operation) (toldSaid (start .args .told)) (start .args .at) _ (start .pre) (after-field .field .ensures) (after-name .name .ensures)
+    (after-field2 .field2 .ensures) (after-value .value .ensures)
 
 same-length : tie.Need-same-length
 same-length c = search needs
 
 returns : tie.Need-returns
 returns c =
-    line-so (c .before .before .before .before .before .before .before .before .before .before .before .before .before .before .before .before .before .before .before .before .before .before .args .number) (c .before .before .before .before .before .before .before .before .before .before .before .before .before .before .before .before .before .before .before .before .before .before .args .operation) (toldSaid (c .before .before .before .before .before .before .before .before .before .before .before .before .before .before .before .before .before .before .before .before .before .before .args .told)) (c .before .before .before .before .before .before .before .before .before .before .before .before .before .before .before .before .before .before .before .before .before .before .args .at) _ (c .before .before .before .before .before .before .before .before .before .before .before .before .before .before .before .before .before .before .before .before .before .before .pre) (c .before .before .before .before .before .before .before .before .before .before .before .before .before .before .before .before .before .before .field .ensures) (c .before .before .before .before .before .before .before .before .before .before .before .before .before .before .name .ensures) (c .before .before .before .before .before .before .before .before .before .before .field2 .ensures) (c .before .before .before .before .before .before .value .ensures) (c .before .before .put .ensures)
+    let after-put : tie.After-put = search needs in
+    let after-value : tie.After-value = search needs in
+    let after-field2 : tie.After-field2 = search needs in
+    let after-name : tie.After-name = search needs in
+    let after-field : tie.After-field = search needs in
+    let start : tie.Start = search needs in
+    line-so (start .args .number) (start .args .operation) (toldSaid (start .args .told)) (start .args .at) _ (start .pre) (after-field .field .ensures) (after-name .name .ensures)
+    (after-field2 .field2 .ensures) (after-value .value .ensures) (after-put .put .ensures)
 
 pub line-spec : {M : Type 1} → statement M
 line-spec =

@@ -13,13 +13,21 @@ enum-told c = search needs
 put-requires : tie.Need-put-requires
 unfolding nameOf
 put-requires c κs =
-    let h = c .before .before .before .before .pre in let k = rw (c .before .enum-told .given .1) at h in omega arith
+    let start : tie.Start = search needs in
+    let h = start .pre in
+    let k = rw (c .before .enum-told .given .1) at h in
+    omega arith
 
 put-requires-2 : tie.Need-put-requires-2
 unfolding nameOf
 put-requires-2 c κs =
-    let h = c .before .before .before .before .before .before .before .before .pre in let k = rw (c .before .before .before .before .before .enum-told .given .1) at h in
-    let m = put-room (32 ∷ []) (c .before .before .before .put .ensures) k in omega arith
+    let after-put : tie.After-put = search needs in
+    let after-enum-told : tie.After-enum-told = search needs in
+    let start : tie.Start = search needs in
+    let h = start .pre in
+    let k = rw (after-enum-told .enum-told .given .1) at h in
+    let m = put-room (32 ∷ []) (after-put .put .ensures) k in
+    omega arith
 
 enum-known-operation : tie.Need-enum-known-operation
 enum-known-operation c = search needs
@@ -27,7 +35,10 @@ enum-known-operation c = search needs
 field-requires : tie.Need-field-requires
 unfolding nameOf
 field-requires c κs =
-    let h = c .before .before .before .before .before .pre in rw (c .before .before .operation .given .1) at h
+    let after-operation : tie.After-operation = search needs in
+    let start : tie.Start = search needs in
+    let h = start .pre in
+    rw (after-operation .operation .given .1) at h
 
 same-length : tie.Need-same-length
 same-length c = search needs
@@ -35,7 +46,10 @@ same-length c = search needs
 returns : tie.Need-returns
 unfolding nameOf
 returns c =
-    rw (c .before .before .before .before .before .before .before .before .enum-told .given .1) (put-then (c .before .before .before .before .before .before .put .ensures) (c .before .before .put2 .ensures))
+    let after-put2 : tie.After-put2 = search needs in
+    let after-put : tie.After-put = search needs in
+    let after-enum-told : tie.After-enum-told = search needs in
+    rw (after-enum-told .enum-told .given .1) (put-then (after-put .put .ensures) (after-put2 .put2 .ensures))
 
 same-length-2 : tie.Need-same-length-2
 same-length-2 c = search needs
@@ -43,7 +57,9 @@ same-length-2 c = search needs
 returns-2 : tie.Need-returns-2
 unfolding nameOf
 returns-2 c =
-    rw (c .before .before .before .before .before .operation .given .1) (c .before .before .field .ensures)
+    let after-field : tie.After-field = search needs in
+    let after-operation : tie.After-operation = search needs in
+    rw (after-operation .operation .given .1) (after-field .field .ensures)
 
 pub name-spec : {M : Type 1} → statement M
 name-spec =

@@ -13,7 +13,10 @@ cast-decimal c = search needs
 decimal-requires : tie.Need-decimal-requires
 unfolding valueText
 decimal-requires c κs =
-    let h = c .before .before .before .before .before .pre in rw (c .before .before .handed .given .1) at h
+    let after-handed : tie.After-handed = search needs in
+    let start : tie.Start = search needs in
+    let h = start .pre in
+    rw (after-handed .handed .given .1) at h
 
 enum-known-handed-2 : tie.Need-enum-known-handed-2
 enum-known-handed-2 c = search needs
@@ -21,7 +24,10 @@ enum-known-handed-2 c = search needs
 eight-digits-requires : tie.Need-eight-digits-requires
 unfolding valueText
 eight-digits-requires c κs =
-    let h = c .before .before .before .before .before .pre in rw (c .before .before .handed2 .given .1) at h
+    let after-handed2 : tie.After-handed2 = search needs in
+    let start : tie.Start = search needs in
+    let h = start .pre in
+    rw (after-handed2 .handed2 .given .1) at h
 
 enum-told : tie.Need-enum-told
 enum-told c = search needs
@@ -29,7 +35,9 @@ enum-told c = search needs
 decimal-requires-2 : tie.Need-decimal-requires-2
 unfolding valueText
 decimal-requires-2 c κs =
-    let h = c .before .before .before .before .pre in rw (c .before .enum-told .given .1) at h
+    let start : tie.Start = search needs in
+    let h = start .pre in
+    rw (c .before .enum-told .given .1) at h
 
 same-length : tie.Need-same-length
 same-length c = search needs
@@ -37,7 +45,9 @@ same-length c = search needs
 returns : tie.Need-returns
 unfolding valueText
 returns c =
-    rw (c .before .before .before .before .before .handed .given .1) (c .before .before .decimal .ensures)
+    let after-decimal : tie.After-decimal = search needs in
+    let after-handed : tie.After-handed = search needs in
+    rw (after-handed .handed .given .1) (after-decimal .decimal .ensures)
 
 same-length-2 : tie.Need-same-length-2
 same-length-2 c = search needs
@@ -45,7 +55,9 @@ same-length-2 c = search needs
 returns-2 : tie.Need-returns-2
 unfolding valueText
 returns-2 c =
-    rw (c .before .before .before .before .before .handed2 .given .1) (c .before .before .eight-digits .ensures)
+    let after-eight-digits : tie.After-eight-digits = search needs in
+    let after-handed2 : tie.After-handed2 = search needs in
+    rw (after-handed2 .handed2 .given .1) (after-eight-digits .eight-digits .ensures)
 
 same-length-3 : tie.Need-same-length-3
 same-length-3 c = search needs
@@ -53,7 +65,9 @@ same-length-3 c = search needs
 returns-3 : tie.Need-returns-3
 unfolding valueText
 returns-3 c =
-    rw (c .before .before .before .before .enum-told .given .1) (c .before .before .decimal2 .ensures)
+    let after-decimal2 : tie.After-decimal2 = search needs in
+    let after-enum-told : tie.After-enum-told = search needs in
+    rw (after-enum-told .enum-told .given .1) (after-decimal2 .decimal2 .ensures)
 
 pub value-spec : {M : Type 1} → statement M
 value-spec =

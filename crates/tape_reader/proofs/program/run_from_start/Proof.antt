@@ -50,11 +50,11 @@ same-length c = search needs
 returns : tie.Need-returns
 unfolding tapeStart
 returns c =
-    let at-run = c .before .before .before .before .before .before .before in
-    let at-seq = at-run .before .before .before .before .before .before .before in
-    let at-gc = at-seq .before in
-    let start = at-gc .before .before .before in
-    from-start (start .args .tape .now) (start .args .out .now) _ (at-gc .new .ensures) (at-seq .new2 .ensures) (at-run .run .ensures) refl
+    let after-run : tie.After-run = search needs in
+    let after-new2 : tie.After-new2 = search needs in
+    let after-new : tie.After-new = search needs in
+    let start : tie.Start = search needs in
+    from-start (start .args .tape .now) (start .args .out .now) _ (after-new .new .ensures) (after-new2 .new2 .ensures) (after-run .run .ensures) refl
 
 pub run-from-start-spec : {M : Type 1} → statement M
 run-from-start-spec =

@@ -16,11 +16,13 @@ add-result-2 c =
 
 returns : tie.Need-returns
 returns c =
-    let e = hex-so (c .before .args .pixel) in rw (lt-ltb _ _ (c .if1 .taken)) at e
+    let e = hex-so (c .before .args .pixel) in
+    rw (lt-ltb _ _ (c .if1 .taken)) at e
 
 returns-2 : tie.Need-returns-2
 returns-2 c =
-    let e = hex-so (c .before .args .pixel) in rw (le-ltb _ _ (c .if1 .left)) at e
+    let e = hex-so (c .before .args .pixel) in
+    rw (le-ltb _ _ (c .if1 .left)) at e
 
 pub digit-spec : {M : Type 1} → statement M
 digit-spec = tie.close (tie.spec add-result add-result-2 returns returns-2)

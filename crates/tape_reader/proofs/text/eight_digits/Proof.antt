@@ -15,7 +15,9 @@ same-length c = search needs
 
 returns : tie.Need-returns
 returns c =
-    put-then (c .before .before .before .before .before .before .four-digits .ensures) (c .before .before .four-digits2 .ensures)
+    let after-four-digits2 : tie.After-four-digits2 = search needs in
+    let after-four-digits : tie.After-four-digits = search needs in
+    put-then (after-four-digits .four-digits .ensures) (after-four-digits2 .four-digits2 .ensures)
 
 pub eight-digits-spec : {M : Type 1} → statement M
 eight-digits-spec =

@@ -10,12 +10,16 @@ use Rattle.tape_reader.proofs.text.field.Tie as tie
 decimal-requires : tie.Need-decimal-requires
 unfolding fieldOf
 decimal-requires c κs =
-    first-room (c .before .before .args .at) _ (decimalOf (c .before .before .args .number)) (32 ∷ []) (c .before .before .pre)
+    let start : tie.Start = search needs in
+    first-room (start .args .at) _ (decimalOf (start .args .number)) (32 ∷ []) (start .pre)
 
 put-requires : tie.Need-put-requires
 unfolding fieldOf
 put-requires c κs =
-    let k = put-room (32 ∷ []) (c .before .before .before .decimal .ensures) (c .before .before .before .before .before .before .pre) in omega arith
+    let after-decimal : tie.After-decimal = search needs in
+    let start : tie.Start = search needs in
+    let k = put-room (32 ∷ []) (after-decimal .decimal .ensures) (start .pre) in
+    omega arith
 
 same-length : tie.Need-same-length
 same-length c = search needs
@@ -23,7 +27,9 @@ same-length c = search needs
 returns : tie.Need-returns
 unfolding fieldOf
 returns c =
-    put-then (c .before .before .before .before .before .before .decimal .ensures) (c .before .before .put .ensures)
+    let after-put : tie.After-put = search needs in
+    let after-decimal : tie.After-decimal = search needs in
+    put-then (after-decimal .decimal .ensures) (after-put .put .ensures)
 
 pub field-spec : {M : Type 1} → statement M
 field-spec = tie.close (tie.spec decimal-requires put-requires same-length returns)

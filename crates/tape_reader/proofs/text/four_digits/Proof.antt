@@ -15,7 +15,9 @@ same-length c = search needs
 
 returns : tie.Need-returns
 returns c =
-    put-then (c .before .before .before .before .before .before .two-digits .ensures) (c .before .before .two-digits2 .ensures)
+    let after-two-digits2 : tie.After-two-digits2 = search needs in
+    let after-two-digits : tie.After-two-digits = search needs in
+    put-then (after-two-digits .two-digits .ensures) (after-two-digits2 .two-digits2 .ensures)
 
 pub four-digits-spec : {M : Type 1} → statement M
 four-digits-spec =

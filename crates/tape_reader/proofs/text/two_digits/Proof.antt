@@ -21,7 +21,13 @@ same-length c = search needs
 
 returns : tie.Need-returns
 returns c =
-    let f = c .before .before .before .before .before .before .before .put .ensures in let g = c .before .before .put2 .ensures in put-then (rw (c .before .before .before .before .before .before .before .before .digit .ensures) at f) (rw (c .before .before .before .digit2 .ensures) at g)
+    let after-put2 : tie.After-put2 = search needs in
+    let after-digit2 : tie.After-digit2 = search needs in
+    let after-put : tie.After-put = search needs in
+    let after-digit : tie.After-digit = search needs in
+    let f = after-put .put .ensures in
+    let g = after-put2 .put2 .ensures in
+    put-then (rw (after-digit .digit .ensures) at f) (rw (after-digit2 .digit2 .ensures) at g)
 
 pub two-digits-spec : {M : Type 1} → statement M
 two-digits-spec =

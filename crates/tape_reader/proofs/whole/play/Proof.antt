@@ -20,7 +20,8 @@ abbrev μ-loop : tie.MeasureT-loop
 
 loop-holds : tie.Need-loop-holds Inv-loop μ-loop
 loop-holds c =
-    loop-first _ _ _ (search needs) (c .before .before .before .before .before .before .before .pre)
+    let start : tie.Start Inv-loop μ-loop = search needs in
+    loop-first _ _ _ (search needs) (start .pre)
 
 decode-requires : tie.Need-decode-requires Inv-loop μ-loop
 decode-requires c κs =
@@ -36,7 +37,12 @@ of-fault-requires c κs =
 
 line-requires : tie.Need-line-requires Inv-loop μ-loop
 line-requires c κs =
-    broken-fits _ _ _ _ _ _ _ _ (c .before .before .before .before .before .before .before .loop .inv) (c .before .before .before .before .before .before .loop-test .taken) (c .before .before .before .before .before .decode .ensures) _ _ (c .before .before .before .operation .given .1) (c .before .of-fault .ensures)
+    let after-operation : tie.After-operation Inv-loop μ-loop = search needs in
+    let after-decode : tie.After-decode Inv-loop μ-loop = search needs in
+    let in-loop : tie.In-loop Inv-loop μ-loop = search needs in
+    let at-loop : tie.At-loop Inv-loop μ-loop = search needs in
+    broken-fits _ _ _ _ _ _ _ _ (at-loop .loop .inv) (in-loop .loop-test .taken) (after-decode .decode .ensures) _ _ (after-operation .operation .given .1)
+    (c .before .of-fault .ensures)
 
 ended-requires : tie.Need-ended-requires Inv-loop μ-loop
 ended-requires c κs =
@@ -44,31 +50,45 @@ ended-requires c κs =
 
 same-length : tie.Need-same-length Inv-loop μ-loop
 same-length c =
-    c .before .before .before .before .before .before .before .before .before .before .before .loop .inv .kept .k0
+    let at-loop : tie.At-loop Inv-loop μ-loop = search needs in
+    at-loop .loop .inv .kept .k0
 
 same-length-2 : tie.Need-same-length-2 Inv-loop μ-loop
 same-length-2 c =
-    c .before .before .before .before .before .before .before .before .before .before .before .loop .inv .kept .k1
+    let at-loop : tie.At-loop Inv-loop μ-loop = search needs in
+    at-loop .loop .inv .kept .k1
 
 same-length-3 : tie.Need-same-length-3 Inv-loop μ-loop
 same-length-3 c =
-    c .before .before .before .before .before .before .before .before .before .before .before .loop .inv .kept .k2
+    let at-loop : tie.At-loop Inv-loop μ-loop = search needs in
+    at-loop .loop .inv .kept .k2
 
 same-length-4 : tie.Need-same-length-4 Inv-loop μ-loop
 same-length-4 c =
-    c .before .before .before .before .before .before .before .before .before .before .before .loop .inv .kept .k3
+    let at-loop : tie.At-loop Inv-loop μ-loop = search needs in
+    at-loop .loop .inv .kept .k3
 
 same-length-5 : tie.Need-same-length-5 Inv-loop μ-loop
 same-length-5 c =
-    c .before .before .before .before .before .before .before .before .before .before .before .loop .inv .kept .k4
+    let at-loop : tie.At-loop Inv-loop μ-loop = search needs in
+    at-loop .loop .inv .kept .k4
 
 same-length-6 : tie.Need-same-length-6 Inv-loop μ-loop
 same-length-6 c =
-    c .before .before .before .line .kept .1 .1 .1 .0 ∙ c .before .before .before .before .before .before .before .before .before .before .before .loop .inv .room
+    let after-line : tie.After-line Inv-loop μ-loop = search needs in
+    let at-loop : tie.At-loop Inv-loop μ-loop = search needs in
+    after-line .line .kept .1 .1 .1 .0 ∙ at-loop .loop .inv .room
 
 returns : tie.Need-returns Inv-loop μ-loop
 returns c =
-    rw (c .ended .ensures) (broken-end _ _ _ _ _ _ _ _ (c .before .before .before .before .before .before .before .before .before .before .before .loop .inv) (c .before .before .before .before .before .before .before .before .before .before .loop-test .taken) (c .before .before .before .before .before .before .before .before .before .decode .ensures) _ _ (c .before .before .before .before .before .before .before .operation .given .1) (c .before .before .before .before .before .of-fault .ensures) (c .before .before .before .line .ensures))
+    let after-line : tie.After-line Inv-loop μ-loop = search needs in
+    let after-of-fault : tie.After-of-fault Inv-loop μ-loop = search needs in
+    let after-operation : tie.After-operation Inv-loop μ-loop = search needs in
+    let after-decode : tie.After-decode Inv-loop μ-loop = search needs in
+    let in-loop : tie.In-loop Inv-loop μ-loop = search needs in
+    let at-loop : tie.At-loop Inv-loop μ-loop = search needs in
+    rw (c .ended .ensures) (broken-end _ _ _ _ _ _ _ _ (at-loop .loop .inv) (in-loop .loop-test .taken) (after-decode .decode .ensures) _ _ (after-operation .operation .given .1)
+    (after-of-fault .of-fault .ensures) (after-line .line .ensures))
 
 enum-known-command : tie.Need-enum-known-command Inv-loop μ-loop
 enum-known-command c =
@@ -84,23 +104,61 @@ command-number-requires c κs =
 
 line-requires-2 : tie.Need-line-requires-2 Inv-loop μ-loop
 line-requires-2 c κs =
-    whole-fits _ _ _ _ _ _ _ _ (c .before .before .before .before .before .before .before .before .before .before .before .before .before .before .before .before .before .before .before .before .before .before .before .before .loop .inv) (c .before .before .before .before .before .before .before .before .before .before .before .before .before .before .before .before .before .before .before .before .before .before .before .loop-test .taken) (c .before .before .before .before .before .before .before .before .before .before .before .before .before .before .before .before .before .before .before .before .before .before .decode .ensures) _ _ (c .before .before .before .before .before .before .before .before .before .before .before .before .before .before .before .before .before .before .before .before .command .given .1) (c .before .before .before .before .before .before .before .before .before .before .before .before .before .perform .ensures) (c .before .command-number .ensures)
+    let after-perform : tie.After-perform Inv-loop μ-loop = search needs in
+    let after-command : tie.After-command Inv-loop μ-loop = search needs in
+    let after-decode : tie.After-decode Inv-loop μ-loop = search needs in
+    let in-loop : tie.In-loop Inv-loop μ-loop = search needs in
+    let at-loop : tie.At-loop Inv-loop μ-loop = search needs in
+    whole-fits _ _ _ _ _ _ _ _ (at-loop .loop .inv) (in-loop .loop-test .taken) (after-decode .decode .ensures) _ _ (after-command .command .given .1)
+    (after-perform .perform .ensures) (c .before .command-number .ensures)
 
 add-at : tie.Need-add-at Inv-loop μ-loop
 add-at c =
-    omega (arith, taken-fits _ _ _ _ _ _ _ _ (c .before .before .before .before .before .before .before .before .before .before .before .before .before .before .before .before .before .before .before .before .before .before .before .before .before .before .before .before .before .loop .inv) (c .before .before .before .before .before .before .before .before .before .before .before .before .before .before .before .before .before .before .before .before .before .before .before .before .before .before .before .before .loop-test .taken) (c .before .before .before .before .before .before .before .before .before .before .before .before .before .before .before .before .before .before .before .before .before .before .before .before .before .before .before .decode .ensures) _ _ (c .before .before .before .before .before .before .before .before .before .before .before .before .before .before .before .before .before .before .before .before .before .before .before .before .before .command .given .1) .1, c .before .before .before .before .before .before .before .before .before .before .before .before .before .before .before .before .before .before .before .before .before .before .before .before .before .before .before .before .before .loop .inv .short)
+    let after-command : tie.After-command Inv-loop μ-loop = search needs in
+    let after-decode : tie.After-decode Inv-loop μ-loop = search needs in
+    let in-loop : tie.In-loop Inv-loop μ-loop = search needs in
+    let at-loop : tie.At-loop Inv-loop μ-loop = search needs in
+    omega (
+      arith,
+      taken-fits _ _ _ _ _ _ _ _ (at-loop .loop .inv) (in-loop .loop-test .taken) (after-decode .decode .ensures) _ _ (after-command .command .given .1) .1,
+      at-loop .loop .inv .short,
+    )
 
 add-number : tie.Need-add-number Inv-loop μ-loop
 add-number c =
-    omega (arith, c .before .before .before .before .before .before .before .before .before .before .before .before .before .before .before .before .before .before .before .before .before .before .before .before .before .before .before .before .before .loop .inv .count, c .before .before .before .before .before .before .before .before .before .before .before .before .before .before .before .before .before .before .before .before .before .before .before .before .before .before .before .before .before .loop .inv .short, c .before .before .before .before .before .before .before .before .before .before .before .before .before .before .before .before .before .before .before .before .before .before .before .before .before .before .before .before .loop-test .taken)
+    let in-loop : tie.In-loop Inv-loop μ-loop = search needs in
+    let at-loop : tie.At-loop Inv-loop μ-loop = search needs in
+    omega (arith, at-loop .loop .inv .count, at-loop .loop .inv .short, in-loop .loop-test .taken)
 
 loop-less : tie.Need-loop-less Inv-loop μ-loop
 loop-less c =
-    omega (arith, taken-fits _ _ _ _ _ _ _ _ (c .before .before .before .before .before .before .before .before .before .before .before .before .before .before .before .before .before .before .before .before .before .before .before .before .before .before .before .before .before .loop .inv) (c .before .before .before .before .before .before .before .before .before .before .before .before .before .before .before .before .before .before .before .before .before .before .before .before .before .before .before .before .loop-test .taken) (c .before .before .before .before .before .before .before .before .before .before .before .before .before .before .before .before .before .before .before .before .before .before .before .before .before .before .before .decode .ensures) _ _ (c .before .before .before .before .before .before .before .before .before .before .before .before .before .before .before .before .before .before .before .before .before .before .before .before .before .command .given .1) .0, c .before .before .before .before .before .before .before .before .before .before .before .before .before .before .before .before .before .before .before .before .before .before .before .before .before .before .before .before .loop-test .taken)
+    let after-command : tie.After-command Inv-loop μ-loop = search needs in
+    let after-decode : tie.After-decode Inv-loop μ-loop = search needs in
+    let in-loop : tie.In-loop Inv-loop μ-loop = search needs in
+    let at-loop : tie.At-loop Inv-loop μ-loop = search needs in
+    omega (
+      arith,
+      taken-fits _ _ _ _ _ _ _ _ (at-loop .loop .inv) (in-loop .loop-test .taken) (after-decode .decode .ensures) _ _ (after-command .command .given .1) .0,
+      in-loop .loop-test .taken,
+    )
 
 loop-again : tie.Need-loop-again Inv-loop μ-loop
 loop-again c =
-    whole-again _ _ _ _ _ _ _ _ (c .before .before .before .before .before .before .before .before .before .before .before .before .before .before .before .before .before .before .before .before .before .before .before .before .before .before .before .before .before .loop .inv) (c .before .before .before .before .before .before .before .before .before .before .before .before .before .before .before .before .before .before .before .before .before .before .before .before .before .before .before .before .loop-test .taken) (c .before .before .before .before .before .before .before .before .before .before .before .before .before .before .before .before .before .before .before .before .before .before .before .before .before .before .before .decode .ensures) _ _ (c .before .before .before .before .before .before .before .before .before .before .before .before .before .before .before .before .before .before .before .before .before .before .before .before .before .command .given .1) (c .before .before .before .before .before .before .before .before .before .before .before .before .before .before .before .before .before .before .perform .ensures) (c .before .before .before .before .before .before .command-number .ensures) (record { k0 = c .before .before .before .before .before .before .before .before .before .before .before .before .before .before .before .before .before .before .perform .kept .1 .1 .0; k1 = c .before .before .before .before .before .before .before .before .before .before .before .before .before .before .before .before .before .before .perform .kept .1 .1 .1 .0; k2 = c .before .before .before .before .before .before .before .before .before .before .before .before .before .before .before .before .before .before .perform .kept .1 .1 .1 .1 .0; k3 = c .before .before .before .before .before .before .before .before .before .before .before .before .before .before .before .before .before .before .perform .kept .1 .1 .1 .1 .1 .0; k4 = c .before .before .before .before .before .before .before .before .before .before .before .before .before .before .before .before .before .before .perform .kept .1 .1 .1 .1 .1 .1 .0 }) (c .before .before .before .before .line2 .ensures)
+    let after-line2 : tie.After-line2 Inv-loop μ-loop = search needs in
+    let after-command-number : tie.After-command-number Inv-loop μ-loop = search needs in
+    let after-perform : tie.After-perform Inv-loop μ-loop = search needs in
+    let after-command : tie.After-command Inv-loop μ-loop = search needs in
+    let after-decode : tie.After-decode Inv-loop μ-loop = search needs in
+    let in-loop : tie.In-loop Inv-loop μ-loop = search needs in
+    let at-loop : tie.At-loop Inv-loop μ-loop = search needs in
+    whole-again _ _ _ _ _ _ _ _ (at-loop .loop .inv) (in-loop .loop-test .taken) (after-decode .decode .ensures) _ _ (after-command .command .given .1)
+    (after-perform .perform .ensures) (after-command-number .command-number .ensures) (record {
+      k0 = after-perform .perform .kept .1 .1 .0;
+      k1 = after-perform .perform .kept .1 .1 .1 .0;
+      k2 = after-perform .perform .kept .1 .1 .1 .1 .0;
+      k3 = after-perform .perform .kept .1 .1 .1 .1 .1 .0;
+      k4 = after-perform .perform .kept .1 .1 .1 .1 .1 .1 .0;
+    }) (after-line2 .line2 .ensures)
 
 ended-requires-2 : tie.Need-ended-requires-2 Inv-loop μ-loop
 ended-requires-2 c κs =
@@ -108,31 +166,38 @@ ended-requires-2 c κs =
 
 same-length-7 : tie.Need-same-length-7 Inv-loop μ-loop
 same-length-7 c =
-    c .before .before .loop .inv .kept .k0
+    let at-loop : tie.At-loop Inv-loop μ-loop = search needs in
+    at-loop .loop .inv .kept .k0
 
 same-length-8 : tie.Need-same-length-8 Inv-loop μ-loop
 same-length-8 c =
-    c .before .before .loop .inv .kept .k1
+    let at-loop : tie.At-loop Inv-loop μ-loop = search needs in
+    at-loop .loop .inv .kept .k1
 
 same-length-9 : tie.Need-same-length-9 Inv-loop μ-loop
 same-length-9 c =
-    c .before .before .loop .inv .kept .k2
+    let at-loop : tie.At-loop Inv-loop μ-loop = search needs in
+    at-loop .loop .inv .kept .k2
 
 same-length-10 : tie.Need-same-length-10 Inv-loop μ-loop
 same-length-10 c =
-    c .before .before .loop .inv .kept .k3
+    let at-loop : tie.At-loop Inv-loop μ-loop = search needs in
+    at-loop .loop .inv .kept .k3
 
 same-length-11 : tie.Need-same-length-11 Inv-loop μ-loop
 same-length-11 c =
-    c .before .before .loop .inv .kept .k4
+    let at-loop : tie.At-loop Inv-loop μ-loop = search needs in
+    at-loop .loop .inv .kept .k4
 
 same-length-12 : tie.Need-same-length-12 Inv-loop μ-loop
 same-length-12 c =
-    c .before .before .loop .inv .room
+    let at-loop : tie.At-loop Inv-loop μ-loop = search needs in
+    at-loop .loop .inv .room
 
 returns-2 : tie.Need-returns-2 Inv-loop μ-loop
 returns-2 c =
-    rw (c .ended2 .ensures) (loop-end _ _ _ _ _ _ _ _ (c .before .before .loop .inv) (c .before .loop-test .left))
+    let at-loop : tie.At-loop Inv-loop μ-loop = search needs in
+    rw (c .ended2 .ensures) (loop-end _ _ _ _ _ _ _ _ (at-loop .loop .inv) (c .before .loop-test .left))
 
 pub play-spec : {M : Type 1} → statement M
 play-spec =

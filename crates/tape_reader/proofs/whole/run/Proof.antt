@@ -14,12 +14,16 @@ use Rattle.tape_reader.proofs.whole.run.Tie as tie
 returns : tie.Need-returns
 unfolding runOf
 returns c =
-    let h : length (c .before .before .before .before .before .before .before .before .args .out .now) < longest * length (c .before .before .before .before .before .before .before .before .args .tape .now) = omega (arith, c .if1 .taken) in
+    let start : tie.Start = search needs in
+    let h : length (start .args .out .now) < longest * length (start .args .tape .now) = omega (arith, c .if1 .taken) in
     rw (lt-leb _ _ h)
 
 play-requires : tie.Need-play-requires
 play-requires c κs =
-    enough-room (state (c .before .before .before .before .before .before .before .before .before .before .before .before .before .before .args .gc) (c .before .before .before .before .before .before .before .before .before .before .before .before .before .before .args .seq) (mem (c .before .before .before .before .before .before .before .before .before .before .before .before .before .before .args .p0 .now) (c .before .before .before .before .before .before .before .before .before .before .before .before .before .before .args .p1 .now) (c .before .before .before .before .before .before .before .before .before .before .before .before .before .before .args .p2 .now) (c .before .before .before .before .before .before .before .before .before .before .before .before .before .before .args .p3 .now) (c .before .before .before .before .before .before .before .before .before .before .before .before .before .before .args .picture .now))) (c .before .before .before .before .before .before .before .before .before .before .before .before .before .before .args .tape .now) (length (c .before .before .before .before .before .before .before .before .before .before .before .before .before .before .args .out .now)) (omega (arith, c .before .before .before .before .before .before .if1 .left))
+    let else1 : tie.Else1 = search needs in
+    let start : tie.Start = search needs in
+    let m = mem (start .args .p0 .now) (start .args .p1 .now) (start .args .p2 .now) (start .args .p3 .now) (start .args .picture .now) in
+    enough-room (state (start .args .gc) (start .args .seq) m) (start .args .tape .now) (length (start .args .out .now)) (omega (arith, else1 .if1 .left))
 
 same-length : tie.Need-same-length
 same-length c = search needs
@@ -42,8 +46,11 @@ same-length-6 c = search needs
 returns-2 : tie.Need-returns-2
 unfolding runOf
 returns-2 c =
-    let h : longest * length (c .before .before .before .before .before .before .before .before .before .before .before .before .before .before .before .before .before .before .before .before .before .before .before .before .before .before .before .args .tape .now) ≤ length (c .before .before .before .before .before .before .before .before .before .before .before .before .before .before .before .before .before .before .before .before .before .before .before .before .before .before .before .args .out .now) = omega (arith, c .before .before .before .before .before .before .before .before .before .before .before .before .before .before .before .before .before .before .before .if1 .left) in
-    rw (le-leb _ _ h) (c .before .before .before .before .before .before .before .before .before .before .before .before .play .ensures)
+    let after-play : tie.After-play = search needs in
+    let else1 : tie.Else1 = search needs in
+    let start : tie.Start = search needs in
+    let h : longest * length (start .args .tape .now) ≤ length (start .args .out .now) = omega (arith, else1 .if1 .left) in
+    rw (le-leb _ _ h) (after-play .play .ensures)
 
 pub run-spec : {M : Type 1} → statement M
 run-spec =
