@@ -14,6 +14,7 @@ use answers::of_byte;
 use answers::of_part;
 use answers::unknown;
 use answers::unknown_shown;
+use graphics_controller::cpu_peek_u8;
 use host_calls::read_of;
 use host_calls::write_of;
 use host_records::record::ControllerRecord;
@@ -84,19 +85,9 @@ pub extern "C" fn iddesmar_gc_cpu_peek_u8(
         return unknown();
     }
     let controller = to_controller(gc);
-    let sequencer = to_sequencer(seq);
+    let seq = to_sequencer(seq);
     let high = is_set(page);
-    let answer = graphics_controller::cpu_peek_u8(
-        controller,
-        sequencer,
-        p0,
-        p1,
-        p2,
-        p3,
-        picture,
-        address,
-        high,
-    );
+    let answer = cpu_peek_u8(controller, seq, p0, p1, p2, p3, picture, address, high);
     of_byte(answer)
 }
 
@@ -118,11 +109,11 @@ pub extern "C" fn iddesmar_gc_serialize(
         return unknown_shown();
     }
     let controller = to_controller(gc);
-    let sequencer = to_sequencer(seq);
+    let seq = to_sequencer(seq);
     let mut number = 0u8;
     let part = graphics_controller::serialize(
         controller,
-        sequencer,
+        seq,
         p0,
         p1,
         p2,

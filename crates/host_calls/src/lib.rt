@@ -9,6 +9,8 @@ ghost use Rattle.host_records.specs.Records.{isSet, withStats, controllerOf, co
 ghost use Rattle.host_calls.specs.Hosted.{held, cpuHosted, graphicsHosted};
 use answers::done;
 use answers::of_byte;
+use graphics_controller::cpu_read_u8;
+use graphics_controller::cpu_write_u8;
 use host_records::left::ControllerAnswer;
 use host_records::left::StatsAnswer;
 use host_records::left::of_cpu_store;
@@ -42,19 +44,9 @@ pub fn read_of(
         return unknown_controller(gc);
     }
     let controller = to_controller(gc);
-    let sequencer = to_sequencer(seq);
+    let seq = to_sequencer(seq);
     let high = is_set(page);
-    let r = graphics_controller::cpu_read_u8(
-        controller,
-        sequencer,
-        p0,
-        p1,
-        p2,
-        p3,
-        picture,
-        address,
-        high,
-    );
+    let r = cpu_read_u8(controller, seq, p0, p1, p2, p3, picture, address, high);
     let answer = r.answer;
     let next = r.gc;
     ControllerAnswer {
@@ -83,11 +75,11 @@ pub fn write_of(
         return unknown_counters(gc);
     }
     let controller = to_controller(gc);
-    let sequencer = to_sequencer(seq);
+    let seq = to_sequencer(seq);
     let high = is_set(page);
-    let r = graphics_controller::cpu_write_u8(
+    let r = cpu_write_u8(
         controller,
-        sequencer,
+        seq,
         p0,
         p1,
         p2,
