@@ -318,7 +318,8 @@ module _ {M : Type 1} (𝓤 : URA M) (H : Heap 𝓤) (A : Atoms 𝓤) (at-mem : 
   gc-cpu-write-u8-post r e =
       let m = lent (a .1 .1 .0) (a .1 .1 .1 .0) (a .1 .1 .1 .1 .0) (a .1 .1 .1 .1 .1 .0) (a .1 .1 .1 .1 .1 .1 .0) in
       let m′ = lent (e .1 .1 .0) (e .1 .1 .1 .0) (e .1 .1 .1 .1 .0) (e .1 .1 .1 .1 .1 .0) (e .1 .1 .1 .1 .1 .1 .0) in
-      outcome (answerSaid r) (held (now (e .0)) m′) ≡ cpuHosted (now (a .0)) (a .1 .0) m (one 0) (cpuWrite (a .1 .1 .1 .1 .1 .1 .1 .0) (isSet (a .1 .1 .1 .1 .1 .1 .1 .1 .0)) (a .1 .1 .1 .1 .1 .1 .1 .1 .1 .0))
+      outcome (answerSaid r) (held (now (e .0)) m′)
+      ≡ cpuHosted (now (a .0)) (a .1 .0) m (one 0) (cpuWrite (a .1 .1 .1 .1 .1 .1 .1 .0) (isSet (a .1 .1 .1 .1 .1 .1 .1 .1 .0)) (a .1 .1 .1 .1 .1 .1 .1 .1 .1 .0))
 
   gc-cpu-write-u8-reads : (r : Answer) (e : AtExit gc-cpu-write-u8.ended κs) → gc-cpu-write-u8.clauses 𝓤 H A at-mem run κs a .ensures tt r e ≡ fact 𝓤 (gc-cpu-write-u8-post r e)
   gc-cpu-write-u8-reads r e = refl

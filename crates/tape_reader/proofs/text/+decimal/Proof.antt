@@ -68,7 +68,9 @@ decimal-returns : (t : ℕ) → decimal-lts.Need-returns (
   decimal.Post,
 ) (decimal-at t) decimal.Post
 decimal-returns t c =
-    rw (decimal-small (c .before .before .before .before .before .before .args .number) (c .before .before .before .before .if1 .taken)) (c .before .before .put .ensures)
+    let then1 = c .before .before .before .before in
+    let start = then1 .before .before in
+    rw (decimal-small (start .args .number) (then1 .if1 .taken)) (c .before .before .put .ensures)
 
 decimal-decimal-requires : (t : ℕ) → decimal-lts.Need-decimal-requires (
   put-reads.Asked,
@@ -107,9 +109,12 @@ decimal-put-requires-2 : (t : ℕ) → decimal-lts.Need-put-requires-2 (
   decimal.Post,
 ) (decimal-at t) decimal.Post
 decimal-put-requires-2 t c κs =
-    let h = c .before .before .before .before .before .before .before .pre .1 in
-    let e = decimal-more (c .before .before .before .before .before .before .before .args .number) (c .before .before .before .before .before .if1 .left) (search needs) in
-    let k = put-room ((48 + c .before .before .before .before .before .before .before .args .number % 10) ∷ []) (c .before .before .before .decimal .ensures) (rw e at h) in
+    let after-decimal = c .before .before .before in
+    let else1 = after-decimal .before .before in
+    let start = else1 .before .before in
+    let h = start .pre .1 in
+    let e = decimal-more (start .args .number) (else1 .if1 .left) (search needs) in
+    let k = put-room ((48 + start .args .number % 10) ∷ []) (after-decimal .decimal .ensures) (rw e at h) in
     omega arith
 
 decimal-same-length-2 : (t : ℕ) → decimal-lts.Need-same-length-2 (
@@ -119,7 +124,9 @@ decimal-same-length-2 : (t : ℕ) → decimal-lts.Need-same-length-2 (
   decimal.Post,
 ) (decimal-at t) decimal.Post
 decimal-same-length-2 t c =
-    c .before .before .put2 .kept .0 ∙ c .before .before .before .before .before .before .decimal .kept .1 .0
+    let after-put2 = c .before .before in
+    let after-decimal = after-put2 .before .before .before .before in
+    after-put2 .put2 .kept .0 ∙ after-decimal .decimal .kept .1 .0
 
 decimal-returns-2 : (t : ℕ) → decimal-lts.Need-returns-2 (
   put-reads.Asked,
@@ -128,7 +135,11 @@ decimal-returns-2 : (t : ℕ) → decimal-lts.Need-returns-2 (
   decimal.Post,
 ) (decimal-at t) decimal.Post
 decimal-returns-2 t c =
-    rw (decimal-more (c .before .before .before .before .before .before .before .before .before .before .args .number) (c .before .before .before .before .before .before .before .before .if1 .left) (search needs)) (put-then (c .before .before .before .before .before .before .decimal .ensures) (c .before .before .put2 .ensures))
+    let after-put2 = c .before .before in
+    let after-decimal = after-put2 .before .before .before .before in
+    let else1 = after-decimal .before .before in
+    let start = else1 .before .before in
+    rw (decimal-more (start .args .number) (else1 .if1 .left) (search needs)) (put-then (after-decimal .decimal .ensures) (after-put2 .put2 .ensures))
 
 pub +decimal-spec : {M : Type 1} → statement M
 +decimal-spec = close μ-decimal λ t. decimal-lts.spec (
