@@ -258,7 +258,7 @@ def rattle(piece):
     arguments = [part.strip() for part in given.split(",")]
     if len(parameters) != len(arguments) or not all(fits(a, *p) for a, p in zip(arguments, parameters)):
         piece.fails(f"{function} takes ({', '.join(': '.join(p) for p in parameters)})")
-    types = source("types")
+    types = source("machine_types")
     fields = re.search(rf"pub struct {declared[2]} \{{([^}}]*)\}}", types)
     for field in re.findall(r"\br\.(\w+)", piece.text):
         if not fields or f"pub {field}:" not in fields[1]:
@@ -266,7 +266,7 @@ def rattle(piece):
     for name, variant in re.findall(r"\b([A-Z]\w+)::(\w+)", piece.text):
         body = re.search(rf"pub enum {name} \{{([^}}]*)\}}", types)
         if not body or not re.search(rf"\b{variant}\b", body[1]):
-            piece.fails(f"no {name}::{variant} in crates/types/src")
+            piece.fails(f"no {name}::{variant} in crates/machine_types/src")
 
 
 # ---- what is printed, and what theorems have
@@ -328,7 +328,7 @@ PIECES = [
     ("README.md", "tape/text-to-tape", "shell", "commands"),
     ("README.md", "5 5 5 5", case_11, "held to case 11, run as a tape"),
     ("README.md", "cheap", two_prices, "held to `cheap-says` and `dear-says` of Example.antt"),
-    ("README.md", "let r = graphics_controller", rattle, "held to the function's name, parameters and answer in crates/graphics_controller/src and crates/types/src"),
+    ("README.md", "let r = graphics_controller", rattle, "held to the function's name, parameters and answer in crates/graphics_controller/src and crates/machine_types/src"),
     ("README.md", "rt staticlib", "shell", "commands"),
     ("README.md", "gc = iddesmar_gc_new", c_piece, "compiled in a frame, linked and run; its pixels are those of its comment"),
     ("README.md", "oracle/check", "shell", "commands"),

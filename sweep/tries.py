@@ -102,7 +102,7 @@ def refusers(output):
 
 def try_source(edit, crate):
     """An edit of a crate's code, held to that crate's contracts; one of the types' constants to those of the crates above, which use them."""
-    verdict = with_edit(edit, (lambda: definition_verdict(crate)) if crate == 'types' else lambda: read(*dev(crate)))
+    verdict = with_edit(edit, (lambda: definition_verdict(crate)) if crate == 'machine_types' else lambda: read(*dev(crate)))
     verdict.word = 'refused' if verdict.word == 'contracts only' else verdict.word
     return verdict
 

@@ -2,7 +2,7 @@
 use mathlib.Core.Path.{sym, _∙_}
 use contract.Lifetimes.{Lfts}
 use borrow.Fn.Kinds.{Dens}
-use Rattle.types.proofs.OneAnswer.{OneAnswer}
+use Rattle.machine_types.proofs.OneAnswer.{OneAnswer}
 use Rattle.answers.proofs.Told.{answer-is, pixel-is, clock-is, mapped-is}
 use Rattle.answers.proofs.narrow.given.Reads as given
 use Rattle.answers.proofs.narrow.given.Kinds as given-kinds

@@ -2,11 +2,11 @@
 ghost use mathlib.Core.Path.{_≡_};
 ghost use Rattle.machine.specs.Answers.{refusalNumber, byteSaid, pixelSaid, storeSaid, doneSaid, flagSaid};
 ghost use Rattle.answers.specs.Answers.{answerSaid, pixelAnswerSaid, answerOf};
-use types::ByteAnswer;
-use types::DoneAnswer;
-use types::FlagAnswer;
-use types::Refusal;
-use types::StoreAnswer;
+use machine_types::ByteAnswer;
+use machine_types::DoneAnswer;
+use machine_types::FlagAnswer;
+use machine_types::Refusal;
+use machine_types::StoreAnswer;
 
 // A byte, a mark, an enum's place in its order; 0 where a call hands nothing back.
 #[repr(C)]

@@ -5,12 +5,12 @@ ghost use Rattle.answers.specs.Answers.{answerSaid};
 use crate::narrow::Answer;
 use crate::narrow::given;
 use crate::narrow::refused;
-use types::MapAnswer;
-use types::MemoryMap;
-use types::OddEvenAnswer;
-use types::OddEvenModeComplement;
-use types::ShiftAnswer;
-use types::ShiftMode;
+use machine_types::MapAnswer;
+use machine_types::MemoryMap;
+use machine_types::OddEvenAnswer;
+use machine_types::OddEvenModeComplement;
+use machine_types::ShiftAnswer;
+use machine_types::ShiftMode;
 
 fn map_number(map: MemoryMap) -> u8
     ensures { λ r. ⌜ r ≡ mapNumber map ⌝ }

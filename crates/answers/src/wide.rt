@@ -3,9 +3,9 @@ ghost use mathlib.Core.Path.{_≡_};
 ghost use mathlib.Core.List.{[]};
 ghost use Rattle.machine.specs.Answers.{clockSaid, mappedSaid, partSaid};
 ghost use Rattle.answers.specs.Wide.{clockAnswerSaid, mappedAnswerSaid, shownOf};
-use types::ClockAnswer;
-use types::MappedAnswer;
-use types::Refusal;
+use machine_types::ClockAnswer;
+use machine_types::MappedAnswer;
+use machine_types::Refusal;
 
 // The character clock.
 #[repr(C)]

@@ -10,9 +10,9 @@ use list_lines::print;
 use list_lines::said;
 use list_lines::said::GraphicsLeft;
 use list_lines::said::Said;
-use types::GraphicsController;
-use types::Sequencer;
-use types::Shape;
+use machine_types::GraphicsController;
+use machine_types::Sequencer;
+use machine_types::Shape;
 
 pub struct Session {
     pub gc: GraphicsController,

@@ -2,11 +2,11 @@
 // length lent. Fields are numbered in the order of the digest; a field or a register of none changes nothing.
 use list_lines::line::Call;
 use list_lines::line::low_byte;
-use types::GraphicsController;
-use types::GraphicsControllerStats;
-use types::GraphicsRegisters;
-use types::Sequencer;
-use types::Shape;
+use machine_types::GraphicsController;
+use machine_types::GraphicsControllerStats;
+use machine_types::GraphicsRegisters;
+use machine_types::Sequencer;
+use machine_types::Shape;
 
 // The operation that puts a byte into memory itself, lent or not.
 pub const PUT: usize = 44;

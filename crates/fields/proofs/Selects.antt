@@ -2,7 +2,7 @@
 use Prim.Native.Nat.{ℕ, zero, suc, _<_}
 use native.Mathlib.Omega.{arith}
 use mathlib.Core.Path.{_≡_, refl}
-use Rattle.types.specs.declared.seq.SequencerRegister.the-variants.{Invalid}
+use Rattle.machine_types.specs.declared.seq.SequencerRegister.the-variants.{Invalid}
 use Rattle.machine.specs.Sequencer.{selectsSeq}
 
 -- others select Invalid

@@ -1,14 +1,14 @@
 // The fields of the controller's kept bytes, a shift and a mask each, and its registers by number.
 ghost use mathlib.Core.Path.{_≡_};
 ghost use Rattle.machine.specs.Graphics.{rotateCount, logicFunction, writeMode, readMode, oddEven, shiftMode, chained, memoryMap, selects, registerNumber};
-use types::GraphicsRegister;
-use types::GraphicsRegisters;
-use types::LogicFunction;
-use types::MemoryMap;
-use types::OddEvenModeComplement;
-use types::ReadMode;
-use types::ShiftMode;
-use types::WriteMode;
+use machine_types::GraphicsRegister;
+use machine_types::GraphicsRegisters;
+use machine_types::LogicFunction;
+use machine_types::MemoryMap;
+use machine_types::OddEvenModeComplement;
+use machine_types::ReadMode;
+use machine_types::ShiftMode;
+use machine_types::WriteMode;
 
 // Data Rotate, bits 0-2.
 pub fn rotate_count(registers: GraphicsRegisters) -> u8

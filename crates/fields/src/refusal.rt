@@ -1,7 +1,7 @@
 // Refusals by the document's numbers.
 ghost use mathlib.Core.Path.{_≡_};
 ghost use Rattle.machine.specs.Answers.{refusalNumber};
-use types::Refusal;
+use machine_types::Refusal;
 
 // A refusal's number in the table of refusals.
 pub fn refusal_number(refusal: Refusal) -> u8

@@ -1,9 +1,9 @@
 // The fields of the sequencer's kept bytes that a call on memory asks for, and its registers by number.
 ghost use mathlib.Core.Path.{_≡_};
 ghost use Rattle.machine.specs.Sequencer.{seqOddEven, chainFour, selectsSeq, seqNumber};
-use types::OddEvenMode;
-use types::Sequencer;
-use types::SequencerRegister;
+use machine_types::OddEvenMode;
+use machine_types::Sequencer;
+use machine_types::SequencerRegister;
 
 // Memory Mode, bit 2.
 pub fn odd_even(seq: Sequencer) -> OddEvenMode

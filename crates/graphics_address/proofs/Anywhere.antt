@@ -6,9 +6,9 @@ use mathlib.Core.Bool.{Bool, true}
 use lib.Dec.{ltb}
 use borrow.Author.Tests.{lt-ltb}
 use Rattle.bits.specs.Bit.{bitOf}
-use Rattle.types.specs.declared.answer.MappedAnswer.{MappedAnswer}
-use Rattle.types.specs.declared.gc.GraphicsController.{GraphicsController}
-use Rattle.types.specs.declared.gc.MemoryMap.{MemoryMap}
+use Rattle.machine_types.specs.declared.answer.MappedAnswer.{MappedAnswer}
+use Rattle.machine_types.specs.declared.gc.GraphicsController.{GraphicsController}
+use Rattle.machine_types.specs.declared.gc.MemoryMap.{MemoryMap}
 use Rattle.machine.specs.Answers.{two, outcome, answered, mappedSaid}
 use Rattle.machine.specs.Graphics.{fitsGc, memoryMap, chained}
 use Rattle.machine.specs.Address.{inWindow, a0, mapped, offset}

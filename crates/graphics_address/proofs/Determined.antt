@@ -2,7 +2,7 @@
 use contract.Lifetimes.{Lfts}
 use borrow.Fn.Kinds.{Dens}
 use Rattle.machine.proofs.Injective.{answer-of, mapped-injective}
-use Rattle.types.proofs.OneAnswer.{OneAnswer}
+use Rattle.machine_types.proofs.OneAnswer.{OneAnswer}
 use Rattle.graphics_address.proofs.map_address.Reads as map-address
 use Rattle.graphics_address.proofs.map_address.Kinds as map-address-kinds
 

@@ -3,10 +3,10 @@ ghost use mathlib.Core.Path.{_≡_};
 ghost use Rattle.machine.specs.Answers.{outcome, mappedSaid};
 ghost use Rattle.machine.specs.Calls.{gcMapAddress};
 ghost use Rattle.machine.specs.Step.{graphicsStep};
+use machine_types::GraphicsController;
+use machine_types::MappedAnswer;
 use refusals_access::judge_address;
 use refusals_records::fits_gc;
-use types::GraphicsController;
-use types::MappedAnswer;
 
 // Of any memory: every offset of 16 bits is within 65,536.
 pub fn map_address(gc: GraphicsController, address: usize, page: bool) -> MappedAnswer

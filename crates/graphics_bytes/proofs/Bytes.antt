@@ -8,8 +8,8 @@ use Rattle.bits.specs.Bit.{bit, ofBits, byteOf, isOne, pick}
 use Rattle.bits.proofs.Laws.{bit-lt, bit-of, of-ext}
 use Rattle.bits.proofs.Bitwise.{bit-spread}
 use Rattle.bits.proofs.Decide.{agree2}
-use Rattle.types.specs.declared.gc.GraphicsRegisters.{GraphicsRegisters}
-use Rattle.types.specs.declared.gc.WriteMode.the-variants.{Mode0}
+use Rattle.machine_types.specs.declared.gc.GraphicsRegisters.{GraphicsRegisters}
+use Rattle.machine_types.specs.declared.gc.WriteMode.the-variants.{Mode0}
 use Rattle.machine.specs.Graphics.{rotateCount}
 use Rattle.machine.specs.DataPath.{rotated, dataBit, masked, writtenBit}
 

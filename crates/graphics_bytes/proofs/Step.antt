@@ -6,8 +6,8 @@ use Rattle.bits.specs.Bit.{bit, byteOf, isOne, pick}
 use Rattle.bits.proofs.Laws.{bit-lt, of-ext, is-of}
 use Rattle.bits.proofs.Bitwise.{bitwise, bytes}
 use Rattle.bits.proofs.Decide.{same3}
-use Rattle.types.specs.declared.gc.LogicFunction.{LogicFunction}
-use Rattle.types.specs.declared.gc.LogicFunction.the-variants.{Unmodified, And, Or, Xor}
+use Rattle.machine_types.specs.declared.gc.LogicFunction.{LogicFunction}
+use Rattle.machine_types.specs.declared.gc.LogicFunction.the-variants.{Unmodified, And, Or, Xor}
 use Rattle.machine.specs.DataPath.{combined}
 
 -- the code's expression for each function

@@ -2,8 +2,8 @@
 use Prim.Native.Nat.{ℕ}
 use mathlib.Core.List.{List, [], _∷_}
 use Rattle.bits.specs.Bit.{bit, byteOf}
-use Rattle.types.specs.declared.gc.GraphicsRegisters.{GraphicsRegisters}
-use Rattle.types.specs.declared.gc.WriteMode.{WriteMode}
+use Rattle.machine_types.specs.declared.gc.GraphicsRegisters.{GraphicsRegisters}
+use Rattle.machine_types.specs.declared.gc.WriteMode.{WriteMode}
 use Rattle.machine.specs.DataPath.{writtenBit}
 use Rattle.machine.specs.Deeds.{latch}
 

@@ -9,8 +9,8 @@ ghost use Rattle.machine.specs.DataPath.{rotated, masked, writtenBit};
 ghost use Rattle.graphics_bytes.specs.PlaneBytes.{planeBytes, four};
 use bits::inner::spread;
 use logic::logic_step;
-use types::GraphicsRegisters;
-use types::WriteMode;
+use machine_types::GraphicsRegisters;
+use machine_types::WriteMode;
 
 // Eight bits turned right; a turn by 0 shifts by 0 twice.
 fn rotate_right_u8(byte: u8, count: u8) -> u8

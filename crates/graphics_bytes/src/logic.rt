@@ -2,7 +2,7 @@
 ghost use mathlib.Core.Path.{_≡_};
 ghost use Rattle.bits.specs.Bit.{bit, byteOf, isOne, pick};
 ghost use Rattle.machine.specs.DataPath.{combined};
-use types::LogicFunction;
+use machine_types::LogicFunction;
 
 // A mask bit 1 takes the function of data and latch, a 0 the latch.
 pub fn logic_step(function: LogicFunction, mask: u8, data: u8, latch: u8) -> u8

@@ -8,19 +8,19 @@ use lib.Dec.{ltb}
 use lib.ListN.{length, getD, take, drop}
 use borrow.Author.Tests.{ltb-true}
 use Rattle.bits.specs.Bit.{bitOf, pick}
-use Rattle.types.specs.declared.answer.Refusal.{Refusal}
-use Rattle.types.specs.declared.answer.MappedAnswer.{MappedAnswer}
-use Rattle.types.specs.declared.answer.MappedAnswer.the-variants.{Done as MappedDone, Refused as MappedRefused}
-use Rattle.types.specs.declared.place.PlaneOffset.{PlaneOffset}
-use Rattle.types.specs.declared.gc.WriteMode.{WriteMode}
-use Rattle.types.specs.declared.gc.WriteMode.the-variants.{Mode0, Mode1, Mode2, Invalid}
-use Rattle.types.specs.declared.gc.GraphicsRegisters.{GraphicsRegisters}
-use Rattle.types.specs.declared.gc.GraphicsController.{GraphicsController}
-use Rattle.types.specs.declared.gc.MemoryMap.{MemoryMap}
-use Rattle.types.specs.declared.gc.ReadMode.{ReadMode}
-use Rattle.types.specs.declared.gc.ReadMode.the-variants.{ReadSelectedPlane, ReadComparedPlanes}
-use Rattle.types.specs.declared.seq.Sequencer.{Sequencer}
-use Rattle.types.specs.declared.shape.Shape.{Shape}
+use Rattle.machine_types.specs.declared.answer.Refusal.{Refusal}
+use Rattle.machine_types.specs.declared.answer.MappedAnswer.{MappedAnswer}
+use Rattle.machine_types.specs.declared.answer.MappedAnswer.the-variants.{Done as MappedDone, Refused as MappedRefused}
+use Rattle.machine_types.specs.declared.place.PlaneOffset.{PlaneOffset}
+use Rattle.machine_types.specs.declared.gc.WriteMode.{WriteMode}
+use Rattle.machine_types.specs.declared.gc.WriteMode.the-variants.{Mode0, Mode1, Mode2, Invalid}
+use Rattle.machine_types.specs.declared.gc.GraphicsRegisters.{GraphicsRegisters}
+use Rattle.machine_types.specs.declared.gc.GraphicsController.{GraphicsController}
+use Rattle.machine_types.specs.declared.gc.MemoryMap.{MemoryMap}
+use Rattle.machine_types.specs.declared.gc.ReadMode.{ReadMode}
+use Rattle.machine_types.specs.declared.gc.ReadMode.the-variants.{ReadSelectedPlane, ReadComparedPlanes}
+use Rattle.machine_types.specs.declared.seq.Sequencer.{Sequencer}
+use Rattle.machine_types.specs.declared.shape.Shape.{Shape}
 use Rattle.machine.specs.Memory.{Memory, shape, sound}
 use Rattle.machine.specs.Answers.{refusalNumber, Value, one, two, blank, Said, said, part, Outcome, outcome, answered, mappedSaid}
 use Rattle.machine.specs.Graphics.{fitsGc, memoryMap, chained, oddEven, isOddEven, readMode, writeMode, shiftMode, gcOf}

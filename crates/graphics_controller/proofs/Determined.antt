@@ -7,16 +7,16 @@ use contract.Lifetimes.{Lfts}
 use denote.Ref.{RefT, now}
 use denote.Triple.Clauses.{AtExit}
 use borrow.Fn.Kinds.{Dens, endedOf}
-use Rattle.types.specs.declared.answer.ByteAnswer.{ByteAnswer}
-use Rattle.types.specs.declared.answer.StoreAnswer.{StoreAnswer}
-use Rattle.types.specs.declared.answer.CpuByte.{CpuByte}
-use Rattle.types.specs.declared.answer.CpuStore.{CpuStore}
-use Rattle.types.specs.declared.gc.GraphicsController.{GraphicsController}
+use Rattle.machine_types.specs.declared.answer.ByteAnswer.{ByteAnswer}
+use Rattle.machine_types.specs.declared.answer.StoreAnswer.{StoreAnswer}
+use Rattle.machine_types.specs.declared.answer.CpuByte.{CpuByte}
+use Rattle.machine_types.specs.declared.answer.CpuStore.{CpuStore}
+use Rattle.machine_types.specs.declared.gc.GraphicsController.{GraphicsController}
 use Rattle.machine.specs.Memory.{Memory, lent}
 use Rattle.machine.specs.Answers.{Said, Outcome, outcome, byteSaid, storeSaid}
 use Rattle.machine.specs.Step.{Device, device}
 use Rattle.machine.proofs.Injective.{answer-of, next-of, pixels-of, byte-injective, store-injective}
-use Rattle.types.proofs.OneAnswer.{OneAnswer, OneOutcome}
+use Rattle.machine_types.proofs.OneAnswer.{OneAnswer, OneOutcome}
 use Rattle.graphics_controller.proofs.access.cpu_read_u8.Reads as cpu-read-u8
 use Rattle.graphics_controller.proofs.access.cpu_read_u8.Kinds as cpu-read-u8-kinds
 use Rattle.graphics_controller.proofs.access.cpu_peek_u8.Reads as cpu-peek-u8

@@ -14,19 +14,19 @@ use graphics_paths::counted_write;
 use graphics_paths::pixel_op_compare;
 use graphics_paths::selected_plane;
 use graphics_visits::inner::write_planes;
+use machine_types::ByteAnswer;
+use machine_types::CpuByte;
+use machine_types::CpuStore;
+use machine_types::GraphicsController;
+use machine_types::GraphicsRegisters;
+use machine_types::MappedAnswer;
+use machine_types::ReadMode;
+use machine_types::Sequencer;
+use machine_types::Shape;
+use machine_types::StoreAnswer;
 use refusals_access::judge_address;
 use refusals_memory::shaped;
 use refusals_records::fits_both;
-use types::ByteAnswer;
-use types::CpuByte;
-use types::CpuStore;
-use types::GraphicsController;
-use types::GraphicsRegisters;
-use types::MappedAnswer;
-use types::ReadMode;
-use types::Sequencer;
-use types::Shape;
-use types::StoreAnswer;
 
 // The four planes' bytes at an offset.
 fn load(p0: &[u8], p1: &[u8], p2: &[u8], p3: &[u8], picture: &[u8], at: usize) -> [u8; 4]

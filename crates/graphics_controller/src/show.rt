@@ -4,12 +4,12 @@ ghost use Rattle.machine.specs.Memory.{before};
 ghost use Rattle.machine.specs.Answers.{outcome, partSaid};
 ghost use Rattle.machine.specs.Calls.{serialize as serializes};
 ghost use Rattle.machine.specs.Step.{device, cpuStep};
+use machine_types::DoneAnswer;
+use machine_types::GraphicsController;
+use machine_types::PlaneOffset;
+use machine_types::Sequencer;
+use machine_types::Shape;
 use refusals_access::judge_show;
-use types::DoneAnswer;
-use types::GraphicsController;
-use types::PlaneOffset;
-use types::Sequencer;
-use types::Shape;
 
 // The part, or an empty one where refused; the number beside it.
 pub fn serialize<'a, 'b, 'c, 'd, 'p, 'n>(

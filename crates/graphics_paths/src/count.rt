@@ -1,9 +1,9 @@
 // The six counters of accepted accesses.
 ghost use mathlib.Core.Path.{_≡_};
 ghost use Rattle.machine.specs.Calls.{counted, readCounter, writeCounter};
-use types::GraphicsControllerStats;
-use types::ReadMode;
-use types::WriteMode;
+use machine_types::GraphicsControllerStats;
+use machine_types::ReadMode;
+use machine_types::WriteMode;
 
 pub fn counted_read(mode: ReadMode, stats: GraphicsControllerStats) -> GraphicsControllerStats
     ensures { λ r. ⌜ r ≡ counted (readCounter mode) stats ⌝ }

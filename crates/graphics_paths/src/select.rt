@@ -2,8 +2,8 @@
 ghost use mathlib.Core.Path.{_≡_};
 ghost use Rattle.bits.specs.Bit.{ofBits, bitOf};
 ghost use Rattle.machine.specs.DataPath.{selectedPlane, visits};
-use types::GraphicsRegisters;
-use types::OddEvenModeComplement;
+use machine_types::GraphicsRegisters;
+use machine_types::OddEvenModeComplement;
 
 // Under odd/even the address's bit 0 takes the place of the map select's.
 pub fn selected_plane(registers: GraphicsRegisters, address: usize) -> usize

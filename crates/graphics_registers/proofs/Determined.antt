@@ -3,12 +3,12 @@
 use mathlib.Core.Path.{_≡_, ap₂}
 use contract.Lifetimes.{Lfts}
 use borrow.Fn.Kinds.{Dens}
-use Rattle.types.specs.declared.answer.DoneAnswer.{DoneAnswer}
-use Rattle.types.specs.declared.answer.GraphicsDone.{GraphicsDone}
-use Rattle.types.specs.declared.gc.GraphicsController.{GraphicsController}
+use Rattle.machine_types.specs.declared.answer.DoneAnswer.{DoneAnswer}
+use Rattle.machine_types.specs.declared.answer.GraphicsDone.{GraphicsDone}
+use Rattle.machine_types.specs.declared.gc.GraphicsController.{GraphicsController}
 use Rattle.machine.specs.Answers.{Outcome, outcome, doneSaid}
 use Rattle.machine.proofs.Injective.{answer-of, next-of, byte-injective, done-injective, flag-injective, map-injective, odd-even-injective, shift-injective}
-use Rattle.types.proofs.OneAnswer.{OneAnswer}
+use Rattle.machine_types.proofs.OneAnswer.{OneAnswer}
 use Rattle.graphics_registers.proofs.registers.reset.Reads as reset
 use Rattle.graphics_registers.proofs.registers.reset.Kinds as reset-kinds
 use Rattle.graphics_registers.proofs.registers.chain.Reads as chain

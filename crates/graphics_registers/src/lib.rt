@@ -1,4 +1,4 @@
-// The controller without its memory: its ports, and the fields that are asked for. The record stands in `types`.
+// The controller without its memory: its ports, and the fields that are asked for. The record stands in `machine_types`.
 mod registers;
 
 pub use registers::chain;

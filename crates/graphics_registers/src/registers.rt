@@ -4,19 +4,19 @@ ghost use Rattle.machine.specs.Answers.{said, one, outcome, byteSaid, doneSaid,
 ghost use Rattle.machine.specs.Graphics.{gcOf, withAddress, withData, dataOf};
 ghost use Rattle.machine.specs.Calls.{isChain4, gcReset, gcChain, gcChain4, gcMemoryMap, gcOddEven, gcShiftMode, gcReadAddress, gcReadData, gcWriteAddress, gcWriteData};
 ghost use Rattle.machine.specs.Step.{graphicsStep};
+use machine_types::ByteAnswer;
+use machine_types::DoneAnswer;
+use machine_types::FlagAnswer;
+use machine_types::GraphicsController;
+use machine_types::GraphicsDone;
+use machine_types::GraphicsRegister;
+use machine_types::GraphicsRegisters;
+use machine_types::MapAnswer;
+use machine_types::OddEvenAnswer;
+use machine_types::Refusal;
+use machine_types::ShiftAnswer;
+use machine_types::ShiftMode;
 use refusals_records::fits_gc;
-use types::ByteAnswer;
-use types::DoneAnswer;
-use types::FlagAnswer;
-use types::GraphicsController;
-use types::GraphicsDone;
-use types::GraphicsRegister;
-use types::GraphicsRegisters;
-use types::MapAnswer;
-use types::OddEvenAnswer;
-use types::Refusal;
-use types::ShiftAnswer;
-use types::ShiftMode;
 
 // Any record is taken; latches and counters go back to the start too.
 pub fn reset(gc: GraphicsController) -> GraphicsController

@@ -12,10 +12,10 @@ use borrow.Author.Tests.{eqb-true}
 use Rattle.bits.specs.Bit.{bit, ofBits, isOne, bitOf, pick}
 use Rattle.bits.proofs.Laws.{test-lt, bit-of, of-lt, is-of}
 use Rattle.bits.proofs.Bitwise.{bit-and}
-use Rattle.types.specs.declared.gc.GraphicsRegisters.{GraphicsRegisters}
-use Rattle.types.specs.declared.gc.WriteMode.{WriteMode}
-use Rattle.types.specs.declared.gc.WriteMode.the-variants.{Mode0, Mode1, Mode2, Invalid}
-use Rattle.types.specs.declared.seq.Sequencer.{Sequencer}
+use Rattle.machine_types.specs.declared.gc.GraphicsRegisters.{GraphicsRegisters}
+use Rattle.machine_types.specs.declared.gc.WriteMode.{WriteMode}
+use Rattle.machine_types.specs.declared.gc.WriteMode.the-variants.{Mode0, Mode1, Mode2, Invalid}
+use Rattle.machine_types.specs.declared.seq.Sequencer.{Sequencer}
 use Rattle.machine.specs.Memory.{Memory, plane}
 use Rattle.machine.specs.Sequencer.{storedAt}
 use Rattle.machine.specs.Deeds.{latch, any, laid, remade, stored, storedByte, memoryAfter}

@@ -14,10 +14,10 @@ ghost use Rattle.machine.specs.Calls.{writeDeed};
 ghost use Rattle.graphics_visits.specs.Writes.{storesTo};
 use graphics_bytes::plane_bytes;
 use graphics_paths::visited;
-use types::GraphicsController;
-use types::GraphicsRegisters;
-use types::Sequencer;
-use types::WriteMode;
+use machine_types::GraphicsController;
+use machine_types::GraphicsRegisters;
+use machine_types::Sequencer;
+use machine_types::WriteMode;
 use vram_planes::PlaneStore;
 
 // The planes that are stored, as four bits: visited, and let through by the mask.

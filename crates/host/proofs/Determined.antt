@@ -23,7 +23,7 @@ use Rattle.answers.proofs.Told.{answer-is, pixel-is, clock-is, mapped-is}
 use Rattle.host_records.proofs.Told.{sequencer-answer-is}
 use Rattle.host_records.specs.Records.{isSet, controllerOf, controllerRecordOf}
 use Rattle.host_calls.specs.Hosted.{Held, held, graphicsHosted, cpuHosted}
-use Rattle.types.proofs.OneAnswer.{OneAnswer, OneOutcome}
+use Rattle.machine_types.proofs.OneAnswer.{OneAnswer, OneOutcome}
 use Rattle.host.proofs.planes.iddesmar_vram_read_u8.Reads as vram-read-u8
 use Rattle.host.proofs.planes.iddesmar_vram_read_u8.Kinds as vram-read-u8-kinds
 use Rattle.host.proofs.planes.iddesmar_vram_peek_u8.Reads as vram-peek-u8

@@ -23,7 +23,7 @@ use host_records::record::is_set;
 use host_records::record::known;
 use host_records::record::to_controller;
 use host_records::record::to_sequencer;
-use types::PlaneOffset;
+use machine_types::PlaneOffset;
 
 #[no_mangle]
 pub extern "C" fn iddesmar_gc_cpu_read_u8(

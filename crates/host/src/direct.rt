@@ -20,8 +20,8 @@ use host_records::record::SequencerRecord;
 use host_records::record::is_set;
 use host_records::record::known_sequencer;
 use host_records::record::to_sequencer;
-use types::PixelPlace;
-use types::PlaneOffset;
+use machine_types::PixelPlace;
+use machine_types::PlaneOffset;
 
 #[no_mangle]
 pub extern "C" fn iddesmar_seq_cpu_read_u8(

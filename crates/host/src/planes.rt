@@ -13,8 +13,8 @@ use answers::of_done;
 use answers::of_part;
 use answers::of_pixel;
 use answers::of_store;
-use types::PixelPlace;
-use types::PlaneOffset;
+use machine_types::PixelPlace;
+use machine_types::PlaneOffset;
 
 #[no_mangle]
 pub extern "C" fn iddesmar_vram_read_u8(

@@ -1,7 +1,7 @@
 // The controller's ports and fields. The two ports and the reset update the record where it stands; what only asks takes it by value.
 ghost use mathlib.Core.Path.{_≡_};
 ghost use Rattle.machine.specs.Answers.{one, two, outcome};
-ghost use Rattle.types.specs.Start.{freshGc};
+ghost use Rattle.machine_types.specs.Start.{freshGc};
 ghost use Rattle.machine.specs.Calls.{gcReset, gcChain, gcChain4, gcMemoryMap, gcOddEven, gcShiftMode, gcReadAddress, gcReadData, gcWriteAddress, gcWriteData, gcMapAddress};
 ghost use Rattle.machine.specs.Step.{lifted, graphicsStep};
 ghost use Rattle.answers.specs.Answers.{answerSaid};
@@ -25,9 +25,9 @@ use host_records::record::is_set;
 use host_records::record::known_controller;
 use host_records::record::of_controller;
 use host_records::record::to_controller;
-use types::GraphicsController;
-use types::MappedAnswer;
-use types::Refusal;
+use machine_types::GraphicsController;
+use machine_types::MappedAnswer;
+use machine_types::Refusal;
 
 // The start record; the host's own byte is 0.
 #[no_mangle]

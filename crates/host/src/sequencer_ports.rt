@@ -1,7 +1,7 @@
 // The sequencer's ports, its clock and the pending mark, on its record by value.
 ghost use mathlib.Core.Path.{_≡_};
 ghost use Rattle.machine.specs.Answers.{one, outcome};
-ghost use Rattle.types.specs.Start.{freshSeq};
+ghost use Rattle.machine_types.specs.Start.{freshSeq};
 ghost use Rattle.machine.specs.Calls.{seqReset, seqClock, seqSetClockChangePending, seqPollClockChange, seqReadAddress, seqReadData, seqWriteAddress, seqWriteData};
 ghost use Rattle.machine.specs.Step.{lifted, sequencerStep};
 ghost use Rattle.answers.specs.Answers.{answerSaid};
@@ -22,9 +22,9 @@ use host_records::record::SequencerRecord;
 use host_records::record::known_sequencer;
 use host_records::record::of_sequencer;
 use host_records::record::to_sequencer;
-use types::ClockAnswer;
-use types::Refusal;
-use types::Sequencer;
+use machine_types::ClockAnswer;
+use machine_types::Refusal;
+use machine_types::Sequencer;
 
 // The start record.
 #[no_mangle]

@@ -13,7 +13,7 @@ use Rattle.host_records.specs.declared.record.StatsRecord.{StatsRecord}
 use Rattle.host_records.specs.declared.left.StatsAnswer.{StatsAnswer}
 use Rattle.host_records.proofs.Told.{controller-answer-is}
 use Rattle.host_calls.specs.Hosted.{Held}
-use Rattle.types.proofs.OneAnswer.{OneAnswer, OneOutcome}
+use Rattle.machine_types.proofs.OneAnswer.{OneAnswer, OneOutcome}
 use Rattle.host_calls.proofs.reset_of.Reads as reset-of
 use Rattle.host_calls.proofs.reset_of.Kinds as reset-of-kinds
 use Rattle.host_calls.proofs.address_of.Reads as address-of

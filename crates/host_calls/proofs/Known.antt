@@ -5,9 +5,9 @@ use mathlib.Core.Logic.{_≢_}
 use mathlib.Core.Path.{_≡_, refl, ap, ap₂, _∙_, subst}
 use mathlib.Core.Bool.{Bool, true, _&&_}
 use mathlib.Core.List.{List, [], _∷_, List·Memᴰ}
-use Rattle.types.specs.declared.gc.GraphicsController.{GraphicsController}
-use Rattle.types.specs.declared.seq.Sequencer.{Sequencer}
-use Rattle.types.specs.Start.{freshGc, freshSeq}
+use Rattle.machine_types.specs.declared.gc.GraphicsController.{GraphicsController}
+use Rattle.machine_types.specs.declared.seq.Sequencer.{Sequencer}
+use Rattle.machine_types.specs.Start.{freshGc, freshSeq}
 use Rattle.machine.specs.Memory.{Memory, shape}
 use Rattle.machine.specs.Answers.{Value, Said, Outcome, outcome, answered}
 use Rattle.machine.specs.Deeds.{perform}

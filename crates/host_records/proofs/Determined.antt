@@ -2,7 +2,7 @@
 use mathlib.Core.Path.{sym, _∙_}
 use contract.Lifetimes.{Lfts}
 use borrow.Fn.Kinds.{Dens}
-use Rattle.types.proofs.OneAnswer.{OneAnswer}
+use Rattle.machine_types.proofs.OneAnswer.{OneAnswer}
 use Rattle.host_records.proofs.Told.{sequencer-answer-is, controller-answer-is, stats-answer-is}
 use Rattle.host_records.proofs.record.known_controller.Reads as known-controller
 use Rattle.host_records.proofs.record.known_controller.Kinds as known-controller-kinds

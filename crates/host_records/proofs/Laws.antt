@@ -6,14 +6,14 @@ use mathlib.Core.Bool.{Bool, true, false}
 use lib.Dec.{leb}
 use borrow.Author.Tests.{leb-true}
 use Rattle.bits.specs.Bit.{bitOf}
-use Rattle.types.specs.declared.answer.Refusal.{Refusal}
-use Rattle.types.specs.declared.answer.Refusal.the-variants.{Memory, Window, Offset, Plane, Place, State, Damaged, Range, Shift, Room}
-use Rattle.types.specs.declared.gc.GraphicsController.{GraphicsController}
-use Rattle.types.specs.declared.gc.GraphicsRegister.{GraphicsRegister}
-use Rattle.types.specs.declared.gc.GraphicsRegister.the-variants.{SetReset, EnableSetReset, ColorCompare, DataRotate, ReadMapSelect, Mode, Miscellaneous, ColorDontCare, BitMask}
-use Rattle.types.specs.declared.seq.Sequencer.{Sequencer}
-use Rattle.types.specs.declared.seq.SequencerRegister.{SequencerRegister}
-use Rattle.types.specs.declared.seq.SequencerRegister.the-variants.{Reset, ClockingMode, MapMask, CharacterMapSelect, MemoryMode, Invalid}
+use Rattle.machine_types.specs.declared.answer.Refusal.{Refusal}
+use Rattle.machine_types.specs.declared.answer.Refusal.the-variants.{Memory, Window, Offset, Plane, Place, State, Damaged, Range, Shift, Room}
+use Rattle.machine_types.specs.declared.gc.GraphicsController.{GraphicsController}
+use Rattle.machine_types.specs.declared.gc.GraphicsRegister.{GraphicsRegister}
+use Rattle.machine_types.specs.declared.gc.GraphicsRegister.the-variants.{SetReset, EnableSetReset, ColorCompare, DataRotate, ReadMapSelect, Mode, Miscellaneous, ColorDontCare, BitMask}
+use Rattle.machine_types.specs.declared.seq.Sequencer.{Sequencer}
+use Rattle.machine_types.specs.declared.seq.SequencerRegister.{SequencerRegister}
+use Rattle.machine_types.specs.declared.seq.SequencerRegister.the-variants.{Reset, ClockingMode, MapMask, CharacterMapSelect, MemoryMode, Invalid}
 use Rattle.machine.specs.Answers.{refusalNumber, Value, answered}
 use Rattle.machine.specs.Graphics.{selects, registerNumber}
 use Rattle.machine.specs.Sequencer.{selectsSeq, seqNumber}

@@ -3,10 +3,10 @@ use Prim.Native.Nat.{ℕ, zero, suc}
 use mathlib.Core.Bool.{Bool, true, false, _&&_}
 use lib.Dec.{leb}
 use Rattle.bits.specs.Bit.{bitOf}
-use Rattle.types.specs.declared.gc.GraphicsController.{GraphicsController}
-use Rattle.types.specs.declared.gc.GraphicsControllerStats.{GraphicsControllerStats}
-use Rattle.types.specs.declared.gc.GraphicsRegister.the-variants.{BitMask}
-use Rattle.types.specs.declared.seq.Sequencer.{Sequencer}
+use Rattle.machine_types.specs.declared.gc.GraphicsController.{GraphicsController}
+use Rattle.machine_types.specs.declared.gc.GraphicsControllerStats.{GraphicsControllerStats}
+use Rattle.machine_types.specs.declared.gc.GraphicsRegister.the-variants.{BitMask}
+use Rattle.machine_types.specs.declared.seq.Sequencer.{Sequencer}
 use Rattle.machine.specs.Answers.{Outcome, outcome}
 use Rattle.machine.specs.Graphics.{selects, registerNumber, gcOf}
 use Rattle.machine.specs.Sequencer.{selectsSeq, seqNumber}

@@ -17,12 +17,12 @@ use answers::of_done;
 use answers::of_store;
 use answers::refused;
 use answers::unknown;
-use types::CpuStore;
-use types::DoneAnswer;
-use types::FlagAnswer;
-use types::GraphicsDone;
-use types::SequencerDone;
-use types::SequencerFlag;
+use machine_types::CpuStore;
+use machine_types::DoneAnswer;
+use machine_types::FlagAnswer;
+use machine_types::GraphicsDone;
+use machine_types::SequencerDone;
+use machine_types::SequencerFlag;
 
 // An answer and the sequencer's record as it is left.
 #[repr(C)]

@@ -1,11 +1,11 @@
 // The two records as a host keeps them, numbers alone: no enum can cross the boundary, and C hands in flags that are neither 0 nor 1. The selected register is its number.
 ghost use mathlib.Core.Path.{_≡_};
 ghost use Rattle.host_records.specs.Records.{isSet, statsOf, statsRecordOf, controllerOf, controllerRecordOf, sequencerOf, sequencerRecordOf, knownGc, knownSeq, knownBoth};
-use types::GraphicsController;
-use types::GraphicsControllerStats;
-use types::GraphicsRegister;
-use types::GraphicsRegisters;
-use types::Sequencer;
+use machine_types::GraphicsController;
+use machine_types::GraphicsControllerStats;
+use machine_types::GraphicsRegister;
+use machine_types::GraphicsRegisters;
+use machine_types::Sequencer;
 
 // The counters.
 #[repr(C)]

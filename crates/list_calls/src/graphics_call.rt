@@ -4,8 +4,8 @@ use list_lines::line::low_byte;
 use list_lines::said;
 use list_lines::said::GraphicsLeft;
 use list_lines::said::Said;
-use types::GraphicsController;
-use types::GraphicsDone;
+use machine_types::GraphicsController;
+use machine_types::GraphicsDone;
 
 pub fn ports(call: Call, gc: GraphicsController) -> GraphicsLeft {
     let operation = call.operation;

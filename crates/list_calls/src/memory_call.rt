@@ -8,10 +8,10 @@ use list_lines::line::Call;
 use list_lines::said;
 use list_lines::said::GraphicsLeft;
 use list_lines::said::Said;
-use types::GraphicsController;
-use types::PixelPlace;
-use types::PlaneOffset;
-use types::Sequencer;
+use machine_types::GraphicsController;
+use machine_types::PixelPlace;
+use machine_types::PlaneOffset;
+use machine_types::Sequencer;
 
 // What a show's number is before the call: no answer has it.
 const UNTOLD: u8 = 255;

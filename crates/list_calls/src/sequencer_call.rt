@@ -3,8 +3,8 @@ use list_lines::line::Call;
 use list_lines::line::low_byte;
 use list_lines::said;
 use list_lines::said::Said;
-use types::Sequencer;
-use types::SequencerDone;
+use machine_types::Sequencer;
+use machine_types::SequencerDone;
 
 pub struct SequencerLeft {
     pub seq: Sequencer,

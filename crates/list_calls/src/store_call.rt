@@ -7,12 +7,12 @@ use list_lines::line::low_byte;
 use list_lines::said::GraphicsLeft;
 use list_lines::said::Said;
 use list_lines::said::answer;
+use machine_types::GraphicsController;
+use machine_types::PlaneOffset;
+use machine_types::Sequencer;
 use sequencer::plane_and;
 use sequencer::plane_or;
 use sequencer::plane_set;
-use types::GraphicsController;
-use types::PlaneOffset;
-use types::Sequencer;
 
 pub fn is_store(operation: usize) -> bool {
     match operation {

@@ -2,11 +2,11 @@
 use crate::print;
 use crate::print::numbers;
 use crate::said::bit;
+use machine_types::GraphicsController;
+use machine_types::GraphicsControllerStats;
+use machine_types::GraphicsRegisters;
+use machine_types::Sequencer;
 use std::num::wrapping_add_u32;
-use types::GraphicsController;
-use types::GraphicsControllerStats;
-use types::GraphicsRegisters;
-use types::Sequencer;
 
 fn widened(x: u8) -> u64 {
     x as u64

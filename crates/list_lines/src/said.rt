@@ -7,7 +7,7 @@ use answers::Answer;
 use answers::Clock;
 use answers::Mapped;
 use answers::Shown;
-use types::GraphicsController;
+use machine_types::GraphicsController;
 
 // The answer's number, and what it hands back.
 pub enum Said {

@@ -9,7 +9,7 @@ use lib.Dec.{eqb}
 use lib.ListN.{length, replicate}
 use borrow.Author.Tests.{ne-eqb}
 use Rattle.bits.specs.Bit.{ofBits, pick}
-use Rattle.types.specs.Start.{freshGc, freshSeq}
+use Rattle.machine_types.specs.Start.{freshGc, freshSeq}
 use Rattle.machine.specs.Memory.{planes}
 use Rattle.machine.specs.Graphics.{gcOf}
 use Rattle.machine.specs.Deeds.{latch}

@@ -2,9 +2,9 @@
 use Prim.Native.Nat.{ℕ}
 use mathlib.Core.Path.{_≡_, refl}
 use Rattle.bits.specs.Bit.{bit}
-use Rattle.types.specs.declared.gc.GraphicsRegisters.{GraphicsRegisters}
-use Rattle.types.specs.declared.gc.LogicFunction.the-variants.{Unmodified}
-use Rattle.types.specs.declared.gc.WriteMode.the-variants.{Mode0, Mode1, Mode2}
+use Rattle.machine_types.specs.declared.gc.GraphicsRegisters.{GraphicsRegisters}
+use Rattle.machine_types.specs.declared.gc.LogicFunction.the-variants.{Unmodified}
+use Rattle.machine_types.specs.declared.gc.WriteMode.the-variants.{Mode0, Mode1, Mode2}
 use Rattle.machine.specs.Graphics.{logicFunction}
 use Rattle.machine.specs.DataPath.{dataBit, combined, masked, writtenBit}
 

@@ -6,11 +6,11 @@ use mathlib.Core.Bool.{Bool, true, false, _&&_}
 use mathlib.Core.List.{[]}
 use lib.Dec.{eqb, ltb}
 use borrow.Author.Tests.{ltb-true, leb-true, eqb-true}
-use Rattle.types.specs.declared.answer.Refusal.{Refusal}
-use Rattle.types.specs.declared.answer.Refusal.the-variants.{Memory as NoMemory, Window, Offset, Plane, Place, State, Damaged, Range, Shift, Room}
-use Rattle.types.specs.declared.gc.GraphicsRegisters.{GraphicsRegisters}
-use Rattle.types.specs.declared.seq.Sequencer.{Sequencer}
-use Rattle.types.specs.declared.shape.Shape.{Shape}
+use Rattle.machine_types.specs.declared.answer.Refusal.{Refusal}
+use Rattle.machine_types.specs.declared.answer.Refusal.the-variants.{Memory as NoMemory, Window, Offset, Plane, Place, State, Damaged, Range, Shift, Room}
+use Rattle.machine_types.specs.declared.gc.GraphicsRegisters.{GraphicsRegisters}
+use Rattle.machine_types.specs.declared.seq.Sequencer.{Sequencer}
+use Rattle.machine_types.specs.declared.shape.Shape.{Shape}
 use Rattle.machine.specs.Memory.{Memory, size, sound, Sound}
 use Rattle.machine.specs.Answers.{refusalNumber, Value, blank, said, outcome, answered}
 use Rattle.machine.specs.Graphics.{memoryMap}

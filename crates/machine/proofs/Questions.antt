@@ -9,8 +9,8 @@ use lib.Dec.{eqb}
 use borrow.Author.Tests.{eqb-true, eqb-false, not-true}
 use Rattle.bits.specs.Bit.{bit}
 use Rattle.bits.proofs.Laws.{bit-lt}
-use Rattle.types.specs.declared.gc.ReadMode.{ReadMode}
-use Rattle.types.specs.declared.gc.ReadMode.the-variants.{ReadSelectedPlane, ReadComparedPlanes}
+use Rattle.machine_types.specs.declared.gc.ReadMode.{ReadMode}
+use Rattle.machine_types.specs.declared.gc.ReadMode.the-variants.{ReadSelectedPlane, ReadComparedPlanes}
 use Rattle.machine.specs.Memory.{shape}
 use Rattle.machine.specs.Graphics.{readMode}
 use Rattle.machine.specs.Deeds.{Reply, known, byteAt, compare, pixelAt, pixelsAt}

@@ -8,14 +8,14 @@ use mathlib.Core.List.{List, [], _∷_, List·Memᴰ, List·Memᴰ·head, List·
 use lib.Dec.{eqb}
 use borrow.Author.Tests.{eqb-false, not-true}
 use Rattle.bits.specs.Bit.{pick}
-use Rattle.types.specs.Start.{freshGc, freshSeq}
-use Rattle.types.specs.declared.gc.GraphicsRegister.{GraphicsRegister}
-use Rattle.types.specs.declared.gc.GraphicsRegister.the-variants.{SetReset, EnableSetReset, ColorCompare, ReadMapSelect, ColorDontCare}
-use Rattle.types.specs.declared.seq.SequencerRegister.{SequencerRegister}
-use Rattle.types.specs.declared.seq.SequencerRegister.the-variants.{Reset, ClockingMode, MapMask, CharacterMapSelect, MemoryMode}
-use Rattle.types.specs.declared.gc.GraphicsController.{GraphicsController}
-use Rattle.types.specs.declared.gc.GraphicsRegisters.{GraphicsRegisters}
-use Rattle.types.specs.declared.seq.Sequencer.{Sequencer}
+use Rattle.machine_types.specs.Start.{freshGc, freshSeq}
+use Rattle.machine_types.specs.declared.gc.GraphicsRegister.{GraphicsRegister}
+use Rattle.machine_types.specs.declared.gc.GraphicsRegister.the-variants.{SetReset, EnableSetReset, ColorCompare, ReadMapSelect, ColorDontCare}
+use Rattle.machine_types.specs.declared.seq.SequencerRegister.{SequencerRegister}
+use Rattle.machine_types.specs.declared.seq.SequencerRegister.the-variants.{Reset, ClockingMode, MapMask, CharacterMapSelect, MemoryMode}
+use Rattle.machine_types.specs.declared.gc.GraphicsController.{GraphicsController}
+use Rattle.machine_types.specs.declared.gc.GraphicsRegisters.{GraphicsRegisters}
+use Rattle.machine_types.specs.declared.seq.Sequencer.{Sequencer}
 use Rattle.machine.specs.Memory.{Memory, shape}
 use Rattle.machine.specs.Answers.{Value, Said, answered}
 use Rattle.machine.specs.Graphics.{registerNumber, withAddress, keeps, written, withData}

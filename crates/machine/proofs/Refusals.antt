@@ -8,13 +8,13 @@ use mathlib.Core.List.{List, [], _∷_, map}
 use lib.ListN.{replicate}
 use lib.Dec.{eqb, ltb, leb}
 use borrow.Author.Tests.{ltb-true, leb-true, eqb-true, lt-ltb, le-leb, eq-eqb}
-use Rattle.types.specs.declared.gc.MemoryMap.{MemoryMap}
-use Rattle.types.specs.declared.gc.MemoryMap.the-variants.{«A0000_128k», «A0000_64K», «B0000_32K», «B8000_32K»}
-use Rattle.types.specs.declared.gc.ShiftMode.{ShiftMode}
-use Rattle.types.specs.declared.gc.ShiftMode.the-variants.{Standard, CGACompatible, Chain4, Unused}
-use Rattle.types.specs.declared.gc.GraphicsRegisters.{GraphicsRegisters}
-use Rattle.types.specs.declared.gc.GraphicsController.{GraphicsController}
-use Rattle.types.specs.declared.seq.Sequencer.{Sequencer}
+use Rattle.machine_types.specs.declared.gc.MemoryMap.{MemoryMap}
+use Rattle.machine_types.specs.declared.gc.MemoryMap.the-variants.{«A0000_128k», «A0000_64K», «B0000_32K», «B8000_32K»}
+use Rattle.machine_types.specs.declared.gc.ShiftMode.{ShiftMode}
+use Rattle.machine_types.specs.declared.gc.ShiftMode.the-variants.{Standard, CGACompatible, Chain4, Unused}
+use Rattle.machine_types.specs.declared.gc.GraphicsRegisters.{GraphicsRegisters}
+use Rattle.machine_types.specs.declared.gc.GraphicsController.{GraphicsController}
+use Rattle.machine_types.specs.declared.seq.Sequencer.{Sequencer}
 use Rattle.machine.specs.Memory.{Memory, shape, sound, Shaped}
 use Rattle.machine.specs.Answers.{Value, one, two, pixel, part, blank, Outcome, answered}
 use Rattle.machine.specs.Graphics.{fitsGc, shiftMode, memoryMap}

@@ -5,7 +5,7 @@ use mathlib.Core.List.{List, [], _∷_, _++_, map}
 use lib.ListN.{replicate, take}
 use Rattle.machine.specs.Memory.{Memory, mem}
 use Rattle.machine.specs.Answers.{Value, one, two, pixel, part, Said, said}
-use Rattle.types.specs.Start.{freshGc, freshSeq}
+use Rattle.machine_types.specs.Start.{freshGc, freshSeq}
 use Rattle.machine.specs.Calls.{writeU8, seqWriteAddress, seqWriteData, gcWriteAddress, gcWriteData, gcMapAddress, cpuWrite}
 use Rattle.machine.specs.Step.{State, state, Call, vram, sequencer, graphics, cpu}
 use Rattle.machine.proofs.Computed.{computed}

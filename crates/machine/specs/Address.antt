@@ -3,9 +3,9 @@ use Prim.Native.Nat.{ℕ, _+_, _-_, _*_, _/_, _%_}
 use mathlib.Core.Bool.{Bool, false, _&&_}
 use lib.Dec.{ltb, leb}
 use Rattle.bits.specs.Bit.{bit, isOne, bitOf, pick}
-use Rattle.types.specs.declared.gc.MemoryMap.{MemoryMap}
-use Rattle.types.specs.declared.gc.MemoryMap.the-variants.{«A0000_128k», «A0000_64K», «B0000_32K», «B8000_32K»}
-use Rattle.types.specs.declared.gc.GraphicsRegisters.{GraphicsRegisters}
+use Rattle.machine_types.specs.declared.gc.MemoryMap.{MemoryMap}
+use Rattle.machine_types.specs.declared.gc.MemoryMap.the-variants.{«A0000_128k», «A0000_64K», «B0000_32K», «B8000_32K»}
+use Rattle.machine_types.specs.declared.gc.GraphicsRegisters.{GraphicsRegisters}
 use Rattle.machine.specs.Graphics.{memoryMap, chained}
 
 -- not refusal 2: A0000..BFFFF, A0000..AFFFF, B8000..BFFFF, ends included; the map B0000_32K has no window

@@ -7,13 +7,13 @@ use mathlib.Core.List.{List, [], _∷_}
 use lib.Dec.{eqb}
 use lib.ListN.{length, getD}
 use Rattle.bits.specs.Bit.{pick}
-use Rattle.types.specs.declared.gc.MemoryMap.{MemoryMap}
-use Rattle.types.specs.declared.gc.MemoryMap.the-variants.{«A0000_128k», «A0000_64K», «B0000_32K», «B8000_32K»}
-use Rattle.types.specs.declared.gc.ShiftMode.the-variants.{CGACompatible, Chain4}
-use Rattle.types.specs.declared.gc.GraphicsRegisters.{GraphicsRegisters}
-use Rattle.types.specs.declared.gc.GraphicsControllerStats.{GraphicsControllerStats}
-use Rattle.types.specs.declared.seq.Sequencer.{Sequencer}
-use Rattle.types.specs.Start.{freshGc, freshSeq}
+use Rattle.machine_types.specs.declared.gc.MemoryMap.{MemoryMap}
+use Rattle.machine_types.specs.declared.gc.MemoryMap.the-variants.{«A0000_128k», «A0000_64K», «B0000_32K», «B8000_32K»}
+use Rattle.machine_types.specs.declared.gc.ShiftMode.the-variants.{CGACompatible, Chain4}
+use Rattle.machine_types.specs.declared.gc.GraphicsRegisters.{GraphicsRegisters}
+use Rattle.machine_types.specs.declared.gc.GraphicsControllerStats.{GraphicsControllerStats}
+use Rattle.machine_types.specs.declared.seq.Sequencer.{Sequencer}
+use Rattle.machine_types.specs.Start.{freshGc, freshSeq}
 use Rattle.machine.specs.Memory.{Memory, shape, Shaped}
 use Rattle.machine.specs.Answers.{blank, Outcome}
 use Rattle.machine.specs.Graphics.{shiftMode, memoryMap}

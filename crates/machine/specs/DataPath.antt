@@ -4,11 +4,11 @@ use mathlib.Core.Bool.{Bool, true, _||_}
 use lib.Dec.{eqb}
 use lib.Bits.{differ}
 use Rattle.bits.specs.Bit.{bit, isOne, bitOf, pick}
-use Rattle.types.specs.declared.gc.LogicFunction.{LogicFunction}
-use Rattle.types.specs.declared.gc.LogicFunction.the-variants.{Unmodified, And, Or, Xor}
-use Rattle.types.specs.declared.gc.WriteMode.{WriteMode}
-use Rattle.types.specs.declared.gc.WriteMode.the-variants.{Mode0, Mode1, Mode2, Invalid}
-use Rattle.types.specs.declared.gc.GraphicsRegisters.{GraphicsRegisters}
+use Rattle.machine_types.specs.declared.gc.LogicFunction.{LogicFunction}
+use Rattle.machine_types.specs.declared.gc.LogicFunction.the-variants.{Unmodified, And, Or, Xor}
+use Rattle.machine_types.specs.declared.gc.WriteMode.{WriteMode}
+use Rattle.machine_types.specs.declared.gc.WriteMode.the-variants.{Mode0, Mode1, Mode2, Invalid}
+use Rattle.machine_types.specs.declared.gc.GraphicsRegisters.{GraphicsRegisters}
 use Rattle.machine.specs.Graphics.{oddEven, isOddEven, rotateCount, logicFunction}
 use Rattle.machine.specs.Address.{a0}
 

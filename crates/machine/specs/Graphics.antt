@@ -5,23 +5,23 @@ use mathlib.Core.List.{List, [], _∷_}
 use lib.Dec.{eqb, leb}
 use lib.ListN.{getD}
 use Rattle.bits.specs.Bit.{bit, field, isOne, pick}
-use Rattle.types.specs.declared.gc.GraphicsRegister.{GraphicsRegister}
-use Rattle.types.specs.declared.gc.GraphicsRegister.the-variants.{SetReset, EnableSetReset, ColorCompare, DataRotate, ReadMapSelect, Mode, Miscellaneous, ColorDontCare, BitMask}
-use Rattle.types.specs.declared.gc.OddEvenModeComplement.{OddEvenModeComplement}
-use Rattle.types.specs.declared.gc.OddEvenModeComplement.the-variants.{Sequential, OddEven}
-use Rattle.types.specs.declared.gc.MemoryMap.{MemoryMap}
-use Rattle.types.specs.declared.gc.MemoryMap.the-variants.{«A0000_128k», «A0000_64K», «B0000_32K», «B8000_32K»}
-use Rattle.types.specs.declared.gc.LogicFunction.{LogicFunction}
-use Rattle.types.specs.declared.gc.LogicFunction.the-variants.{Unmodified, And, Or, Xor}
-use Rattle.types.specs.declared.gc.WriteMode.{WriteMode}
-use Rattle.types.specs.declared.gc.WriteMode.the-variants.{Mode0, Mode1, Mode2, Invalid}
-use Rattle.types.specs.declared.gc.ReadMode.{ReadMode}
-use Rattle.types.specs.declared.gc.ReadMode.the-variants.{ReadSelectedPlane, ReadComparedPlanes}
-use Rattle.types.specs.declared.gc.ShiftMode.{ShiftMode}
-use Rattle.types.specs.declared.gc.ShiftMode.the-variants.{Standard, CGACompatible, Chain4, Unused}
-use Rattle.types.specs.declared.gc.GraphicsRegisters.{GraphicsRegisters}
-use Rattle.types.specs.declared.gc.GraphicsControllerStats.{GraphicsControllerStats}
-use Rattle.types.specs.declared.gc.GraphicsController.{GraphicsController}
+use Rattle.machine_types.specs.declared.gc.GraphicsRegister.{GraphicsRegister}
+use Rattle.machine_types.specs.declared.gc.GraphicsRegister.the-variants.{SetReset, EnableSetReset, ColorCompare, DataRotate, ReadMapSelect, Mode, Miscellaneous, ColorDontCare, BitMask}
+use Rattle.machine_types.specs.declared.gc.OddEvenModeComplement.{OddEvenModeComplement}
+use Rattle.machine_types.specs.declared.gc.OddEvenModeComplement.the-variants.{Sequential, OddEven}
+use Rattle.machine_types.specs.declared.gc.MemoryMap.{MemoryMap}
+use Rattle.machine_types.specs.declared.gc.MemoryMap.the-variants.{«A0000_128k», «A0000_64K», «B0000_32K», «B8000_32K»}
+use Rattle.machine_types.specs.declared.gc.LogicFunction.{LogicFunction}
+use Rattle.machine_types.specs.declared.gc.LogicFunction.the-variants.{Unmodified, And, Or, Xor}
+use Rattle.machine_types.specs.declared.gc.WriteMode.{WriteMode}
+use Rattle.machine_types.specs.declared.gc.WriteMode.the-variants.{Mode0, Mode1, Mode2, Invalid}
+use Rattle.machine_types.specs.declared.gc.ReadMode.{ReadMode}
+use Rattle.machine_types.specs.declared.gc.ReadMode.the-variants.{ReadSelectedPlane, ReadComparedPlanes}
+use Rattle.machine_types.specs.declared.gc.ShiftMode.{ShiftMode}
+use Rattle.machine_types.specs.declared.gc.ShiftMode.the-variants.{Standard, CGACompatible, Chain4, Unused}
+use Rattle.machine_types.specs.declared.gc.GraphicsRegisters.{GraphicsRegisters}
+use Rattle.machine_types.specs.declared.gc.GraphicsControllerStats.{GraphicsControllerStats}
+use Rattle.machine_types.specs.declared.gc.GraphicsController.{GraphicsController}
 
 -- ---- the address register
 

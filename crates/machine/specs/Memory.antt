@@ -7,7 +7,7 @@ use lib.Dec.{eqb, ltb, leb}
 use lib.ListN.{length}
 use denote.Ref.{RefT, now}
 use denote.Triple.Both.{Both}
-use Rattle.types.specs.declared.shape.Shape.{Shape}
+use Rattle.machine_types.specs.declared.shape.Shape.{Shape}
 
 -- the four planes and the picture, as lists of bytes
 pub record Memory : Type 0 where

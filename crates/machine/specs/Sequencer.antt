@@ -5,11 +5,11 @@ use mathlib.Core.List.{[], _∷_}
 use lib.Dec.{eqb, leb}
 use lib.ListN.{getD}
 use Rattle.bits.specs.Bit.{bit, field, isOne, bitOf, pick}
-use Rattle.types.specs.declared.seq.SequencerRegister.{SequencerRegister}
-use Rattle.types.specs.declared.seq.SequencerRegister.the-variants.{Reset, ClockingMode, MapMask, CharacterMapSelect, MemoryMode, Invalid}
-use Rattle.types.specs.declared.seq.OddEvenMode.{OddEvenMode}
-use Rattle.types.specs.declared.seq.OddEvenMode.the-variants.{OddEven, Sequential}
-use Rattle.types.specs.declared.seq.Sequencer.{Sequencer}
+use Rattle.machine_types.specs.declared.seq.SequencerRegister.{SequencerRegister}
+use Rattle.machine_types.specs.declared.seq.SequencerRegister.the-variants.{Reset, ClockingMode, MapMask, CharacterMapSelect, MemoryMode, Invalid}
+use Rattle.machine_types.specs.declared.seq.OddEvenMode.{OddEvenMode}
+use Rattle.machine_types.specs.declared.seq.OddEvenMode.the-variants.{OddEven, Sequential}
+use Rattle.machine_types.specs.declared.seq.Sequencer.{Sequencer}
 
 -- ---- the address register
 

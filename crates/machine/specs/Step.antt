@@ -1,7 +1,7 @@
 -- What each call does to what it is handed, layer by layer; `step`, the same on the whole state; `run`, call after call.
 use mathlib.Core.List.{List, [], _∷_}
-use Rattle.types.specs.declared.gc.GraphicsController.{GraphicsController}
-use Rattle.types.specs.declared.seq.Sequencer.{Sequencer}
+use Rattle.machine_types.specs.declared.gc.GraphicsController.{GraphicsController}
+use Rattle.machine_types.specs.declared.seq.Sequencer.{Sequencer}
 use Rattle.machine.specs.Memory.{Memory, shape}
 use Rattle.machine.specs.Answers.{Said, Outcome, outcome, answered}
 use Rattle.machine.specs.Graphics.{gcOf}

@@ -2,9 +2,9 @@
 use Prim.Native.Nat.{ℕ}
 use mathlib.Core.Path.{_≡_, sym}
 use mathlib.Core.Bool.{true}
-use Rattle.types.specs.declared.seq.Sequencer.{Sequencer}
-use Rattle.types.specs.declared.answer.DoneAnswer.{DoneAnswer}
-use Rattle.types.specs.declared.answer.DoneAnswer.the-variants.{Done}
+use Rattle.machine_types.specs.declared.seq.Sequencer.{Sequencer}
+use Rattle.machine_types.specs.declared.answer.DoneAnswer.{DoneAnswer}
+use Rattle.machine_types.specs.declared.answer.DoneAnswer.the-variants.{Done}
 use Rattle.machine.specs.Memory.{Memory, shape}
 use Rattle.machine.specs.Answers.{doneSaid}
 use Rattle.machine.specs.Sequencer.{fitsSeq}

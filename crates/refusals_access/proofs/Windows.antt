@@ -3,7 +3,7 @@ use Prim.Native.Nat.{ℕ, zero, suc, _≤_}
 use mathlib.Core.Path.{_≡_, ap}
 use mathlib.Core.Bool.{true}
 use borrow.Author.Tests.{leb-true}
-use Rattle.types.specs.declared.gc.MemoryMap.the-variants.{«A0000_64K», «B8000_32K»}
+use Rattle.machine_types.specs.declared.gc.MemoryMap.the-variants.{«A0000_64K», «B8000_32K»}
 use Rattle.machine.specs.Address.{inWindow}
 use Rattle.machine.specs.Answers.{Value, Said, Outcome, outcome, answered}
 use Rattle.machine.proofs.Laws.{both}

@@ -7,10 +7,10 @@ ghost use Rattle.bits.specs.Bit.{bitOf};
 ghost use Rattle.machine.specs.Answers.{two, outcome, answered, mappedSaid};
 ghost use Rattle.machine.specs.Address.{inWindow, a0, withBit0, mapped};
 ghost use Rattle.machine.specs.Calls.{refuse};
-use types::MappedAnswer;
-use types::MemoryMap;
-use types::PlaneOffset;
-use types::Refusal;
+use machine_types::MappedAnswer;
+use machine_types::MemoryMap;
+use machine_types::PlaneOffset;
+use machine_types::Refusal;
 
 // Both ends are included.
 fn within(first: usize, last: usize, address: usize) -> bool

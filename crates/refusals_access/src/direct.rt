@@ -3,11 +3,11 @@ ghost use mathlib.Core.Path.{_≡_};
 ghost use Rattle.machine.specs.Answers.{doneSaid};
 ghost use Rattle.machine.specs.Sequencer.{fitsSeq};
 ghost use Rattle.machine.specs.Calls.{refuse, planeNumber};
-use types::DoneAnswer;
-use types::PlaneOffset;
-use types::Refusal;
-use types::Sequencer;
-use types::Shape;
+use machine_types::DoneAnswer;
+use machine_types::PlaneOffset;
+use machine_types::Refusal;
+use machine_types::Sequencer;
+use machine_types::Shape;
 
 // Refusals 6, 1, 4, 3: of a call that names a plane and an offset.
 pub fn judge_direct(seq: Sequencer, shape: Shape, plane: usize, offset: PlaneOffset) -> DoneAnswer

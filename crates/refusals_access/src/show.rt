@@ -2,15 +2,15 @@
 ghost use mathlib.Core.Path.{_≡_};
 ghost use Rattle.machine.specs.Answers.{doneSaid};
 ghost use Rattle.machine.specs.Calls.{shows as showsIn, showNumber};
+use machine_types::DoneAnswer;
+use machine_types::GraphicsRegisters;
+use machine_types::PlaneOffset;
+use machine_types::Refusal;
+use machine_types::Sequencer;
+use machine_types::Shape;
+use machine_types::ShiftMode;
 use refusals_memory::shaped;
 use refusals_records::fits_both;
-use types::DoneAnswer;
-use types::GraphicsRegisters;
-use types::PlaneOffset;
-use types::Refusal;
-use types::Sequencer;
-use types::Shape;
-use types::ShiftMode;
 
 // Whether a show is answered from the picture.
 fn shows(mode: ShiftMode) -> bool

@@ -1,7 +1,7 @@
 -- What a judge answered, at the arm that a `match` on its answer took.
 use Prim.Native.Nat.{ℕ}
 use mathlib.Core.Path.{_≡_, sym, ap, _∙_}
-use Rattle.types.specs.declared.answer.DoneAnswer.{DoneAnswer}
+use Rattle.machine_types.specs.declared.answer.DoneAnswer.{DoneAnswer}
 use Rattle.machine.specs.Answers.{doneSaid}
 
 pub as-told : {d d′ : DoneAnswer} {n : ℕ} → d ≡ d′ → doneSaid d .number ≡ n → doneSaid d′ .number ≡ n

@@ -4,11 +4,11 @@ ghost use lib.Dec.{ltb};
 ghost use Rattle.machine.specs.Memory.{size, sound};
 ghost use Rattle.machine.specs.Answers.{doneSaid, refusalNumber};
 ghost use Rattle.machine.specs.Calls.{refuse, planeNumber, offsetNumber, placeNumber, shownNumber};
-use types::DoneAnswer;
-use types::PixelPlace;
-use types::PlaneOffset;
-use types::Refusal;
-use types::Shape;
+use machine_types::DoneAnswer;
+use machine_types::PixelPlace;
+use machine_types::PlaneOffset;
+use machine_types::Refusal;
+use machine_types::Shape;
 
 // Not refusal 1: the plane lengths agree, n is from 1 to 65,536, and the picture is 8n long.
 pub fn shaped(shape: Shape) -> bool

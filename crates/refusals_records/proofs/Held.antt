@@ -6,7 +6,7 @@ use lib.Bits.{bitOr}
 use lib.Dec.{leb}
 use borrow.Author.Tests.{leb-true}
 use Rattle.bits.proofs.Bitwise.{five-within, and-right}
-use Rattle.types.specs.declared.gc.GraphicsRegisters.{GraphicsRegisters}
+use Rattle.machine_types.specs.declared.gc.GraphicsRegisters.{GraphicsRegisters}
 use Rattle.machine.specs.Graphics.{fitsGc}
 use Rattle.machine.proofs.Laws.{both}
 

@@ -3,8 +3,8 @@ ghost use mathlib.Core.Path.{_≡_};
 ghost use Rattle.machine.specs.Graphics.{fitsGc};
 ghost use Rattle.machine.specs.Sequencer.{fitsSeq};
 ghost use Rattle.machine.specs.Calls.{fitsBoth};
-use types::GraphicsRegisters;
-use types::Sequencer;
+use machine_types::GraphicsRegisters;
+use machine_types::Sequencer;
 
 // The controller's.
 pub fn fits_gc(registers: GraphicsRegisters) -> bool

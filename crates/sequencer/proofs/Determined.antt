@@ -4,7 +4,7 @@ use denote.Triple.Clauses.{AtExit}
 use borrow.Fn.Kinds.{Dens, endedOf}
 use Rattle.machine.specs.Memory.{Memory, lent}
 use Rattle.machine.proofs.Injective.{answer-of, next-of, store-injective}
-use Rattle.types.proofs.OneAnswer.{OneOutcome}
+use Rattle.machine_types.proofs.OneAnswer.{OneOutcome}
 use Rattle.sequencer.proofs.direct.plane_set.Reads as plane-set
 use Rattle.sequencer.proofs.direct.plane_set.Kinds as plane-set-kinds
 use Rattle.sequencer.proofs.direct.plane_and.Reads as plane-and

@@ -4,11 +4,11 @@ use mathlib.Core.Path.{_≡_, refl, _∙_}
 use mathlib.Core.Bool.{Bool, true, false}
 use mathlib.Core.List.{[]}
 use lib.Dec.{eqb}
-use Rattle.types.specs.declared.seq.Sequencer.{Sequencer}
-use Rattle.types.specs.declared.answer.Refusal.{Refusal}
+use Rattle.machine_types.specs.declared.seq.Sequencer.{Sequencer}
+use Rattle.machine_types.specs.declared.answer.Refusal.{Refusal}
 use Rattle.machine.specs.Memory.{Memory}
-use Rattle.types.specs.declared.answer.DoneAnswer.{DoneAnswer}
-use Rattle.types.specs.declared.answer.DoneAnswer.the-variants.{Done, Refused}
+use Rattle.machine_types.specs.declared.answer.DoneAnswer.{DoneAnswer}
+use Rattle.machine_types.specs.declared.answer.DoneAnswer.the-variants.{Done, Refused}
 use Rattle.machine.specs.Answers.{refusalNumber, said, one, outcome}
 use Rattle.machine.specs.Deeds.{byte, laid, remade, memoryAfter, valueOf}
 use Rattle.machine.specs.Sequencer.{inMask, storedAt}

@@ -12,13 +12,13 @@ ghost use Rattle.machine.specs.Calls.{storeOne, seqPlaneSet, seqPlaneAnd, seqPl
 ghost use Rattle.machine.specs.Step.{directStep};
 ghost use Rattle.vram_planes.specs.Stores.{storeBit};
 ghost use Rattle.sequencer.specs.Direct.{directStoreCall};
+use machine_types::DoneAnswer;
+use machine_types::PlaneOffset;
+use machine_types::Sequencer;
+use machine_types::Shape;
+use machine_types::StoreAnswer;
 use refusals_access::judge_direct;
 use sequencer_masks::inner;
-use types::DoneAnswer;
-use types::PlaneOffset;
-use types::Sequencer;
-use types::Shape;
-use types::StoreAnswer;
 use vram_planes::PlaneStore;
 
 // A store, already judged: where the mask has the plane, its byte and its eight pixels; else nothing.

@@ -13,8 +13,8 @@ use Rattle.bits.specs.Bit.{bit, ofBits, isOne, bitOf, pick}
 use Rattle.bits.proofs.Laws.{bit-lt, test-lt, bit-of, is-of}
 use Rattle.bits.proofs.Bitwise.{bit-and, and-one-shl}
 use Rattle.bits.proofs.Decide.{agree1, agree2}
-use Rattle.types.specs.declared.seq.Sequencer.{Sequencer}
-use Rattle.types.specs.declared.seq.OddEvenMode.the-variants.{OddEven, Sequential}
+use Rattle.machine_types.specs.declared.seq.Sequencer.{Sequencer}
+use Rattle.machine_types.specs.declared.seq.OddEvenMode.the-variants.{OddEven, Sequential}
 use Rattle.machine.specs.Sequencer.{fitsSeq, seqOddEven, isSeqOddEven, chainFour, inMask, storedAt, gcReadAt}
 use Rattle.machine.proofs.Laws.{both}
 use Rattle.sequencer_masks.specs.Mask.{maskOf}

@@ -3,8 +3,8 @@ ghost use mathlib.Core.Path.{_≡_};
 ghost use mathlib.Core.Bool.{true};
 ghost use Rattle.machine.specs.Sequencer.{fitsSeq, storedAt, gcReadAt};
 ghost use Rattle.sequencer_masks.specs.Mask.{maskOf};
-use types::OddEvenMode;
-use types::Sequencer;
+use machine_types::OddEvenMode;
+use machine_types::Sequencer;
 
 // Planes 0 and 2; shifted left by a0, planes 1 and 3.
 const ODD_EVEN_MASK: u8 = 0b0101;

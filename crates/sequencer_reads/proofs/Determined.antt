@@ -9,7 +9,7 @@ use denote.Triple.Clauses.{AtExit}
 use borrow.Fn.Kinds.{Dens, endedOf}
 use Rattle.machine.specs.Answers.{Said}
 use Rattle.machine.proofs.Injective.{answer-of, pixels-of, byte-injective, pixel-injective}
-use Rattle.types.proofs.OneAnswer.{OneAnswer}
+use Rattle.machine_types.proofs.OneAnswer.{OneAnswer}
 use Rattle.sequencer_reads.proofs.cpu_read_u8.Reads as cpu-read-u8
 use Rattle.sequencer_reads.proofs.cpu_read_u8.Kinds as cpu-read-u8-kinds
 use Rattle.sequencer_reads.proofs.gc_read_u8.Reads as gc-read-u8

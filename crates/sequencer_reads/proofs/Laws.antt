@@ -3,11 +3,11 @@ use Prim.Native.Nat.{ℕ, _≤_, _<_}
 use native.Mathlib.Omega.{arith}
 use mathlib.Core.Path.{_≡_, refl, ap, _∙_}
 use mathlib.Core.Bool.{Bool}
-use Rattle.types.specs.declared.seq.Sequencer.{Sequencer}
-use Rattle.types.specs.declared.answer.Refusal.{Refusal}
+use Rattle.machine_types.specs.declared.seq.Sequencer.{Sequencer}
+use Rattle.machine_types.specs.declared.answer.Refusal.{Refusal}
 use Rattle.machine.specs.Memory.{Memory}
-use Rattle.types.specs.declared.answer.DoneAnswer.{DoneAnswer}
-use Rattle.types.specs.declared.answer.DoneAnswer.the-variants.{Done, Refused}
+use Rattle.machine_types.specs.declared.answer.DoneAnswer.{DoneAnswer}
+use Rattle.machine_types.specs.declared.answer.DoneAnswer.the-variants.{Done, Refused}
 use Rattle.machine.specs.Answers.{refusalNumber, said, one, outcome}
 use Rattle.machine.specs.Deeds.{byte, memoryAfter, valueOf}
 use Rattle.machine.specs.Calls.{directPlan}

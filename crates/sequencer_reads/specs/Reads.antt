@@ -1,7 +1,7 @@
 -- The reads by plane by their kind, so that one function serves them.
 use Prim.Native.Nat.{ℕ}
 use mathlib.Core.Bool.{Bool}
-use Rattle.types.specs.declared.seq.Sequencer.{Sequencer}
+use Rattle.machine_types.specs.declared.seq.Sequencer.{Sequencer}
 use Rattle.machine.specs.Sequencer.{gcReadAt}
 use Rattle.machine.specs.Calls.{DirectCall, seqCpuReadU8, seqGcReadU8}
 use Rattle.sequencer_reads.specs.declared.PlaneRead.{PlaneRead}

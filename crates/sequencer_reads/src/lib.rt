@@ -5,15 +5,15 @@ ghost use Rattle.machine.specs.Answers.{outcome, byteSaid, pixelSaid, partSaid}
 ghost use Rattle.machine.specs.Calls.{seqCpuReadU8, seqGcReadU8, seqPeekU8, seqReadLinear, seqSerializeLinear};
 ghost use Rattle.machine.specs.Step.{directStep};
 ghost use Rattle.sequencer_reads.specs.Reads.{readAt, readCall};
+use machine_types::ByteAnswer;
+use machine_types::DoneAnswer;
+use machine_types::PixelPlace;
+use machine_types::PlaneOffset;
+use machine_types::Refusal;
+use machine_types::Sequencer;
+use machine_types::Shape;
 use refusals_access::judge_direct;
 use sequencer_masks::inner;
-use types::ByteAnswer;
-use types::DoneAnswer;
-use types::PixelPlace;
-use types::PlaneOffset;
-use types::Refusal;
-use types::Sequencer;
-use types::Shape;
 
 // How a read by plane takes its offset: as it stands, or where chain-four leads.
 enum PlaneRead {

@@ -2,14 +2,14 @@
 use mathlib.Core.Path.{_≡_, ap₂}
 use contract.Lifetimes.{Lfts}
 use borrow.Fn.Kinds.{Dens}
-use Rattle.types.specs.declared.answer.DoneAnswer.{DoneAnswer}
-use Rattle.types.specs.declared.answer.FlagAnswer.{FlagAnswer}
-use Rattle.types.specs.declared.answer.SequencerDone.{SequencerDone}
-use Rattle.types.specs.declared.answer.SequencerFlag.{SequencerFlag}
-use Rattle.types.specs.declared.seq.Sequencer.{Sequencer}
+use Rattle.machine_types.specs.declared.answer.DoneAnswer.{DoneAnswer}
+use Rattle.machine_types.specs.declared.answer.FlagAnswer.{FlagAnswer}
+use Rattle.machine_types.specs.declared.answer.SequencerDone.{SequencerDone}
+use Rattle.machine_types.specs.declared.answer.SequencerFlag.{SequencerFlag}
+use Rattle.machine_types.specs.declared.seq.Sequencer.{Sequencer}
 use Rattle.machine.specs.Answers.{Outcome, outcome, doneSaid, flagSaid}
 use Rattle.machine.proofs.Injective.{answer-of, next-of, byte-injective, done-injective, flag-injective, clock-injective}
-use Rattle.types.proofs.OneAnswer.{OneAnswer}
+use Rattle.machine_types.proofs.OneAnswer.{OneAnswer}
 use Rattle.sequencer_registers.proofs.registers.reset.Reads as reset
 use Rattle.sequencer_registers.proofs.registers.reset.Kinds as reset-kinds
 use Rattle.sequencer_registers.proofs.registers.clock.Reads as clock

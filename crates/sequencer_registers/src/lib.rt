@@ -1,4 +1,4 @@
-// The sequencer without its memory: its ports and its clock. The record stands in `types`.
+// The sequencer without its memory: its ports and its clock. The record stands in `machine_types`.
 mod registers;
 
 pub use registers::clock;

@@ -4,16 +4,16 @@ ghost use Rattle.machine.specs.Answers.{said, one, outcome, byteSaid, doneSaid,
 ghost use Rattle.machine.specs.Sequencer.{seqDataOf, withSeqData, divisorOf, clockOf};
 ghost use Rattle.machine.specs.Calls.{seqReset, seqClock, seqSetClockChangePending, seqPollClockChange, seqReadAddress, seqReadData, seqWriteAddress, seqWriteData};
 ghost use Rattle.machine.specs.Step.{sequencerStep};
+use machine_types::ByteAnswer;
+use machine_types::ClockAnswer;
+use machine_types::DoneAnswer;
+use machine_types::FlagAnswer;
+use machine_types::Refusal;
+use machine_types::Sequencer;
+use machine_types::SequencerDone;
+use machine_types::SequencerFlag;
+use machine_types::SequencerRegister;
 use refusals_records::fits_seq;
-use types::ByteAnswer;
-use types::ClockAnswer;
-use types::DoneAnswer;
-use types::FlagAnswer;
-use types::Refusal;
-use types::Sequencer;
-use types::SequencerDone;
-use types::SequencerFlag;
-use types::SequencerRegister;
 
 // The start record, whatever stood there before.
 pub fn reset(seq: Sequencer) -> Sequencer

@@ -10,7 +10,7 @@ use Rattle.tape_machine.specs.declared.told.Handed.{Handed}
 use Rattle.tape_machine.specs.declared.told.Handed.the-variants.{Byte, Pixels, Nothing}
 use Rattle.tape_calls.specs.declared.calls.Performed.{Performed}
 use Rattle.tape_machine.specs.Told.{handedValue, toldSaid, handedOf}
-use Rattle.types.proofs.OneAnswer.{OneOutcome}
+use Rattle.machine_types.proofs.OneAnswer.{OneOutcome}
 use Rattle.tape_calls.proofs.calls.perform.Reads as perform
 use Rattle.tape_calls.proofs.calls.perform.Kinds as perform-kinds
 

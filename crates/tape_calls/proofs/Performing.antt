@@ -6,8 +6,8 @@ use mathlib.Core.Path.{_≡_, refl, ap, _∙_}
 use mathlib.Core.List.{List, [], _∷_}
 use lib.ListN.{length, take, drop, length-drop}
 use lib.Seq.{length-take-le}
-use Rattle.types.specs.declared.gc.GraphicsController.{GraphicsController}
-use Rattle.types.specs.declared.seq.Sequencer.{Sequencer}
+use Rattle.machine_types.specs.declared.gc.GraphicsController.{GraphicsController}
+use Rattle.machine_types.specs.declared.seq.Sequencer.{Sequencer}
 use Rattle.machine.specs.Memory.{Memory, shape}
 use Rattle.machine.specs.Answers.{one, part, pixelsOf, Said, said, Outcome, outcome, answered, partSaid}
 use Rattle.machine.specs.Deeds.{memoryAfter, latchesAfter, valueOf}

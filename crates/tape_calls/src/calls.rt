@@ -6,16 +6,16 @@ ghost use Rattle.machine.specs.Calls.{cpuRead, cpuPeek, cpuWrite, serialize};
 ghost use Rattle.machine.specs.Step.{state, cpu, step};
 ghost use Rattle.tape_machine.specs.Told.{toldSaid, handedOf};
 ghost use Rattle.tape_machine.specs.Performs.{performed};
+use machine_types::GraphicsController;
+use machine_types::GraphicsDone;
+use machine_types::PlaneOffset;
+use machine_types::Sequencer;
+use machine_types::SequencerDone;
 use tape_machine::Eight;
 use tape_machine::Handed;
 use tape_machine::Told;
 use tape_machine::of_answer;
 use tape_records::Command;
-use types::GraphicsController;
-use types::GraphicsDone;
-use types::PlaneOffset;
-use types::Sequencer;
-use types::SequencerDone;
 
 // What was answered, and both records as they are left.
 pub struct Performed {

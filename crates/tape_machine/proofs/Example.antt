@@ -3,8 +3,8 @@ use Prim.Native.Nat.{ℕ}
 use mathlib.Core.Path.{_≡_, refl}
 use mathlib.Core.List.{List, [], _∷_}
 use lib.ListN.{replicate}
-use Rattle.types.specs.declared.answer.Refusal.the-variants.{Room}
-use Rattle.types.specs.declared.answer.DoneAnswer.the-variants.{Refused}
+use Rattle.machine_types.specs.declared.answer.Refusal.the-variants.{Room}
+use Rattle.machine_types.specs.declared.answer.DoneAnswer.the-variants.{Refused}
 use Rattle.tape_records.specs.declared.records.Command.the-variants.{Reset}
 use Rattle.tape_records.specs.declared.records.Fault.the-variants.{Range}
 use Rattle.tape_records.specs.declared.records.Operation.the-variants.{Was}

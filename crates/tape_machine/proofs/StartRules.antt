@@ -3,8 +3,8 @@ use Prim.Native.Nat.{ℕ, _-_}
 use mathlib.Core.Path.{_≡_, refl}
 use mathlib.Core.List.{List, [], _∷_, _++_}
 use lib.ListN.{length, replicate}
-use Rattle.types.specs.declared.answer.Refusal.the-variants.{Room}
-use Rattle.types.specs.declared.answer.DoneAnswer.the-variants.{Refused}
+use Rattle.machine_types.specs.declared.answer.Refusal.the-variants.{Room}
+use Rattle.machine_types.specs.declared.answer.DoneAnswer.the-variants.{Refused}
 use Rattle.tape_machine.specs.Run.{ranTo}
 use Rattle.tape_machine.specs.Program.{tapeStart, Printed, printed, printedOf}
 use Rattle.tape_machine.proofs.Computed.{computedRun, line, showLine}

@@ -6,11 +6,11 @@ use mathlib.Core.Bool.{true}
 use mathlib.Core.List.{List, [], _∷_, _++_}
 use lib.ListN.{replicate, take}
 use Rattle.bits.specs.Bit.{bitOf}
-use Rattle.types.specs.declared.gc.GraphicsRegister.the-variants.{BitMask}
-use Rattle.types.specs.declared.gc.GraphicsRegisters.{GraphicsRegisters}
-use Rattle.types.specs.declared.gc.GraphicsControllerStats.{GraphicsControllerStats}
-use Rattle.types.specs.declared.seq.SequencerRegister.the-variants.{MapMask}
-use Rattle.types.specs.declared.seq.Sequencer.{Sequencer}
+use Rattle.machine_types.specs.declared.gc.GraphicsRegister.the-variants.{BitMask}
+use Rattle.machine_types.specs.declared.gc.GraphicsRegisters.{GraphicsRegisters}
+use Rattle.machine_types.specs.declared.gc.GraphicsControllerStats.{GraphicsControllerStats}
+use Rattle.machine_types.specs.declared.seq.SequencerRegister.the-variants.{MapMask}
+use Rattle.machine_types.specs.declared.seq.Sequencer.{Sequencer}
 use Rattle.machine.specs.Memory.{Memory, mem}
 use Rattle.machine.specs.Graphics.{registerNumber, gcOf}
 use Rattle.machine.specs.Sequencer.{seqNumber}

@@ -2,7 +2,7 @@
 use Prim.Native.Nat.{ℕ}
 use mathlib.Core.List.{List}
 use lib.ListN.{replicate}
-use Rattle.types.specs.Start.{freshGc, freshSeq}
+use Rattle.machine_types.specs.Start.{freshGc, freshSeq}
 use Rattle.machine.specs.Memory.{mem}
 use Rattle.machine.specs.Step.{State, state}
 use Rattle.tape_machine.specs.declared.ran.Ran.{Ran}

@@ -5,11 +5,11 @@ use lib.Dec.{leb}
 use lib.ListN.{length}
 use lib.Seq.{sets}
 use Rattle.bits.specs.Bit.{pick}
-use Rattle.types.specs.declared.answer.Refusal.the-variants.{Damaged, Range, Room}
-use Rattle.types.specs.declared.answer.DoneAnswer.{DoneAnswer}
-use Rattle.types.specs.declared.answer.DoneAnswer.the-variants.{Done, Refused}
-use Rattle.types.specs.declared.gc.GraphicsController.{GraphicsController}
-use Rattle.types.specs.declared.seq.Sequencer.{Sequencer}
+use Rattle.machine_types.specs.declared.answer.Refusal.the-variants.{Damaged, Range, Room}
+use Rattle.machine_types.specs.declared.answer.DoneAnswer.{DoneAnswer}
+use Rattle.machine_types.specs.declared.answer.DoneAnswer.the-variants.{Done, Refused}
+use Rattle.machine_types.specs.declared.gc.GraphicsController.{GraphicsController}
+use Rattle.machine_types.specs.declared.seq.Sequencer.{Sequencer}
 use Rattle.machine.specs.Memory.{Memory}
 use Rattle.machine.specs.Answers.{refusalNumber, one, Said, said}
 use Rattle.machine.specs.Step.{State}

@@ -1,7 +1,7 @@
 // What a whole run answers.
-use types::DoneAnswer;
-use types::GraphicsController;
-use types::Sequencer;
+use machine_types::DoneAnswer;
+use machine_types::GraphicsController;
+use machine_types::Sequencer;
 
 // Whether the lines had room, how many bytes were written, and both records as they are left.
 pub struct Ran {

@@ -10,7 +10,7 @@ use Rattle.machine.specs.Memory.{Memory, lent}
 use Rattle.tape_machine.specs.declared.ran.Ran.{Ran}
 use Rattle.tape_machine.specs.Run.{TapeRun}
 use Rattle.tape_machine.specs.Program.{Printed}
-use Rattle.types.proofs.OneAnswer.{OneOutcome}
+use Rattle.machine_types.proofs.OneAnswer.{OneOutcome}
 use Rattle.tape_reader.proofs.whole.run.Reads as run
 use Rattle.tape_reader.proofs.whole.run.Kinds as run-kinds
 use Rattle.tape_reader.proofs.program.run_from_start.Reads as run-from-start

@@ -7,7 +7,7 @@ use mathlib.Core.Path.{_≡_, refl, ap, sym, _∙_}
 use mathlib.Core.List.{List, [], _∷_}
 use lib.ListN.{length, drop, length-append, length-drop, drop-of-length-le}
 use lib.Seq.{sets, drop-drop}
-use Rattle.types.specs.declared.answer.DoneAnswer.the-variants.{Done}
+use Rattle.machine_types.specs.declared.answer.DoneAnswer.the-variants.{Done}
 use Rattle.machine.specs.Memory.{Memory}
 use Rattle.machine.specs.Answers.{Said, Outcome, outcome}
 use Rattle.machine.specs.Step.{State}

@@ -2,9 +2,9 @@
 ghost use mathlib.Core.Path.{_≡_};
 ghost use Rattle.tape_machine.specs.Program.{printed, printedOf};
 use crate::whole::run;
+use machine_types::GraphicsController;
+use machine_types::Sequencer;
 use tape_machine::Ran;
-use types::GraphicsController;
-use types::Sequencer;
 
 // Plays a tape on n = 4,096, memory zero, both register sets at start. The lines stand at the start of out; refusal 10 as in run.
 pub fn run_from_start(tape: &[u8], out: &mut [u8]) -> Ran

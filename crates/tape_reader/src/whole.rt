@@ -8,6 +8,10 @@ ghost use Rattle.tape_machine.specs.Told.{toldSaid};
 ghost use Rattle.tape_machine.specs.Run.{operationNumber, faultSaid, recordsOf, linesOf, tapeRun, endedOf, playedOf, runOf};
 use crate::lines::line;
 use answers::refused;
+use machine_types::DoneAnswer;
+use machine_types::GraphicsController;
+use machine_types::Refusal;
+use machine_types::Sequencer;
 use tape_calls::perform;
 use tape_machine::Ran;
 use tape_machine::Told;
@@ -17,10 +21,6 @@ use tape_records::Fault;
 use tape_records::Operation;
 use tape_records::Record;
 use tape_records::decode;
-use types::DoneAnswer;
-use types::GraphicsController;
-use types::Refusal;
-use types::Sequencer;
 
 // The bytes of the longest line.
 pub const LONGEST: usize = 84;

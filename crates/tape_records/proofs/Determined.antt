@@ -2,7 +2,7 @@
 use mathlib.Core.Path.{sym, _∙_}
 use contract.Lifetimes.{Lfts}
 use borrow.Fn.Kinds.{Dens}
-use Rattle.types.proofs.OneAnswer.{OneAnswer}
+use Rattle.machine_types.proofs.OneAnswer.{OneAnswer}
 use Rattle.tape_records.proofs.records.decode.Reads as decode
 use Rattle.tape_records.proofs.records.decode.Kinds as decode-kinds
 

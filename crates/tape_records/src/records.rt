@@ -3,9 +3,9 @@ ghost use mathlib.Core.Path.{_≡_};
 ghost use Prim.Native.Nat.{_+_, _≤_};
 ghost use lib.ListN.{length, drop};
 ghost use Rattle.tape_records.specs.Records.{greatestOf, argumentOf, commandOf, thirdOf, secondOf, firstOf, recordOf};
+use machine_types::PlaneOffset;
 use tape_numbers::Number;
 use tape_numbers::read_number;
-use types::PlaneOffset;
 
 // Numbers of a tape are below this.
 const LIMIT: u64 = 4294967296;

@@ -5,10 +5,10 @@ use contract.Lifetimes.{Lfts}
 use denote.Ref.{now}
 use denote.Triple.Clauses.{AtExit}
 use borrow.Fn.Kinds.{Dens, endedOf}
-use Rattle.types.specs.declared.answer.DoneAnswer.{DoneAnswer}
+use Rattle.machine_types.specs.declared.answer.DoneAnswer.{DoneAnswer}
 use Rattle.machine.specs.Memory.{Memory, lent}
 use Rattle.machine.proofs.Injective.{answer-of, next-of, store-injective, done-injective}
-use Rattle.types.proofs.OneAnswer.{OneOutcome}
+use Rattle.machine_types.proofs.OneAnswer.{OneOutcome}
 use Rattle.vram.proofs.write_u8.Reads as write-u8
 use Rattle.vram.proofs.write_u8.Kinds as write-u8-kinds
 use Rattle.vram.proofs.deplane.Reads as deplane

@@ -2,11 +2,11 @@
 use Prim.Native.Nat.{ℕ, _<_}
 use mathlib.Core.Path.{_≡_, refl, sym, _∙_}
 use lib.Dec.{eqb}
-use Rattle.types.specs.declared.shape.Shape.{Shape}
+use Rattle.machine_types.specs.declared.shape.Shape.{Shape}
 use Rattle.machine.specs.Memory.{Memory, shape, size, Sound}
-use Rattle.types.specs.declared.answer.Refusal.{Refusal}
-use Rattle.types.specs.declared.answer.DoneAnswer.{DoneAnswer}
-use Rattle.types.specs.declared.answer.DoneAnswer.the-variants.{Done, Refused}
+use Rattle.machine_types.specs.declared.answer.Refusal.{Refusal}
+use Rattle.machine_types.specs.declared.answer.DoneAnswer.{DoneAnswer}
+use Rattle.machine_types.specs.declared.answer.DoneAnswer.the-variants.{Done, Refused}
 use Rattle.machine.specs.Answers.{refusalNumber, one, said, outcome, doneSaid}
 use Rattle.machine.specs.Deeds.{byte, remade, laid, valueOf}
 use Rattle.machine.specs.Calls.{offsetNumber, planeNumber, unmasked, vramPlan}

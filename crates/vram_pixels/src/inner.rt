@@ -6,8 +6,8 @@ ghost use lib.ListN.{length, getD, take, drop};
 ghost use Rattle.bits.specs.Bit.{bit, ofBits};
 ghost use Rattle.machine.specs.Memory.{lent, before, after, Shaped};
 ghost use Rattle.machine.specs.Deeds.{remade};
-use types::PixelPlace;
-use types::PlaneOffset;
+use machine_types::PixelPlace;
+use machine_types::PlaneOffset;
 
 // The place of the first of an offset's eight pixels: the one conversion between the two counts.
 pub fn first_pixel(offset: PlaneOffset) -> PixelPlace

@@ -9,7 +9,7 @@ use denote.Triple.Clauses.{AtExit}
 use borrow.Fn.Kinds.{Dens, endedOf}
 use Rattle.machine.specs.Answers.{Said}
 use Rattle.machine.proofs.Injective.{answer-of, pixels-of, byte-injective, pixel-injective}
-use Rattle.types.proofs.OneAnswer.{OneAnswer}
+use Rattle.machine_types.proofs.OneAnswer.{OneAnswer}
 use Rattle.vram_reads.proofs.read_glyph.Reads as read-glyph
 use Rattle.vram_reads.proofs.read_glyph.Kinds as read-glyph-kinds
 use Rattle.vram_reads.proofs.peek_u8.Reads as peek-u8

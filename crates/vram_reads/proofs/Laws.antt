@@ -1,7 +1,7 @@
 -- What the code's proofs cite, the stores' above too: a plane and an offset that the judge accepted.
 use Prim.Native.Nat.{ℕ, _<_, _≤_}
 use mathlib.Core.Path.{_≡_, sym}
-use Rattle.types.specs.declared.shape.Shape.{Shape}
+use Rattle.machine_types.specs.declared.shape.Shape.{Shape}
 use Rattle.machine.specs.Memory.{size, Sound}
 use Rattle.machine.specs.Calls.{planeNumber}
 use Rattle.machine.proofs.Laws.{plane-accepted}

@@ -5,11 +5,11 @@ ghost use Rattle.machine.specs.Memory.{before};
 ghost use Rattle.machine.specs.Answers.{outcome, byteSaid, pixelSaid, partSaid};
 ghost use Rattle.machine.specs.Calls.{readGlyph, peekU8, readU8, readLinear, serializeLinear};
 ghost use Rattle.machine.specs.Step.{vramStep};
-use types::ByteAnswer;
-use types::DoneAnswer;
-use types::PixelPlace;
-use types::PlaneOffset;
-use types::Shape;
+use machine_types::ByteAnswer;
+use machine_types::DoneAnswer;
+use machine_types::PixelPlace;
+use machine_types::PlaneOffset;
+use machine_types::Shape;
 
 // Plane 2's byte.
 pub fn read_glyph(

@@ -1,6 +1,6 @@
 -- `reset_of` restores the start: from `reset`.
 use mathlib.Core.Path.{ap}
-use Rattle.types.specs.declared.gc.GraphicsController.{GraphicsController}
+use Rattle.machine_types.specs.declared.gc.GraphicsController.{GraphicsController}
 use Rattle.machine.specs.Answers.{Outcome, outcome}
 use Rattle.host_records.specs.Records.{controllerRecordOf}
 use borrow.Author.Needs.{needs}

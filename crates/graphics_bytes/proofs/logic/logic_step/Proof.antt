@@ -2,8 +2,8 @@
 use mathlib.Core.Path.{_≡_}
 use borrow.Author.Needs.{needs}
 use Rattle.bits.specs.Bit.{bit, byteOf}
-use Rattle.types.specs.declared.gc.LogicFunction.the-variants.{Unmodified, And, Or, Xor}
-use Rattle.types.specs.declared.gc.LogicFunction.{LogicFunction}
+use Rattle.machine_types.specs.declared.gc.LogicFunction.the-variants.{Unmodified, And, Or, Xor}
+use Rattle.machine_types.specs.declared.gc.LogicFunction.{LogicFunction}
 use Rattle.graphics_bytes.proofs.Step.{whole, stepped, whole-is}
 use Rattle.graphics_bytes.proofs.logic.logic_step.Statement.{statement}
 use Rattle.graphics_bytes.proofs.logic.logic_step.Tie as tie

@@ -3,8 +3,8 @@ use mathlib.Core.Path.{ap, _∙_}
 use borrow.Author.Needs.{needs}
 use Rattle.machine.specs.Calls.{counted, writeCounter}
 use Rattle.machine.specs.Graphics.{gcOf}
-use Rattle.types.specs.declared.gc.GraphicsControllerStats.{GraphicsControllerStats}
-use Rattle.types.specs.declared.gc.WriteMode.{WriteMode}
+use Rattle.machine_types.specs.declared.gc.GraphicsControllerStats.{GraphicsControllerStats}
+use Rattle.machine_types.specs.declared.gc.WriteMode.{WriteMode}
 use Rattle.machine.specs.Answers.{said, one, outcome}
 use Rattle.graphics_controller.proofs.access.write_done.Statement.{statement}
 use Rattle.graphics_controller.proofs.access.write_done.Tie as tie

@@ -4,7 +4,7 @@ use mathlib.Core.List.{[], _∷_}
 use mathlib.Core.Logic.{inl, inr}
 use mathlib.Core.Path.{_≡_, ap, _∙_}
 use borrow.Author.Needs.{needs}
-use Rattle.types.specs.declared.gc.WriteMode.{WriteMode}
+use Rattle.machine_types.specs.declared.gc.WriteMode.{WriteMode}
 use Rattle.bits.specs.Bit.{bit, isOne}
 use Rattle.machine.specs.Graphics.{writeMode}
 use Rattle.machine.specs.Calls.{writeDeed}

@@ -1,6 +1,6 @@
 -- The start is restored: from `reset`.
 use mathlib.Core.Path.{ap}
-use Rattle.types.specs.declared.seq.Sequencer.{Sequencer}
+use Rattle.machine_types.specs.declared.seq.Sequencer.{Sequencer}
 use Rattle.machine.specs.Answers.{Outcome, outcome}
 use Rattle.host_records.specs.Records.{sequencerRecordOf}
 use borrow.Author.Needs.{needs}

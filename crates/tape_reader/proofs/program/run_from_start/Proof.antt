@@ -4,9 +4,9 @@ use mathlib.Core.Path.{_≡_, refl, ap, sym}
 use mathlib.Core.List.{List}
 use borrow.Author.Needs.{needs}
 use lib.ListN.{length-replicate}
-use Rattle.types.specs.Start.{freshGc, freshSeq}
-use Rattle.types.specs.declared.gc.GraphicsController.{GraphicsController}
-use Rattle.types.specs.declared.seq.Sequencer.{Sequencer}
+use Rattle.machine_types.specs.Start.{freshGc, freshSeq}
+use Rattle.machine_types.specs.declared.gc.GraphicsController.{GraphicsController}
+use Rattle.machine_types.specs.declared.seq.Sequencer.{Sequencer}
 use Rattle.machine.specs.Memory.{Memory}
 use Rattle.machine.specs.Step.{state}
 use Rattle.tape_machine.specs.declared.ran.Ran.{Ran}

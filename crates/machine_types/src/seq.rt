@@ -1,6 +1,6 @@
 // The sequencer: its registers as kept bytes, and the clock that the emulator polls.
 ghost use mathlib.Core.Path.{_≡_};
-ghost use Rattle.types.specs.Start.{freshSeq};
+ghost use Rattle.machine_types.specs.Start.{freshSeq};
 
 pub enum SequencerRegister {
     Reset,

@@ -1,6 +1,6 @@
 // The graphics controller: its registers as kept bytes, its counters and latches.
 ghost use mathlib.Core.Path.{_≡_};
-ghost use Rattle.types.specs.Start.{freshGc};
+ghost use Rattle.machine_types.specs.Start.{freshGc};
 
 // The registers that the address register selects, in the order of their numbers.
 pub enum GraphicsRegister {

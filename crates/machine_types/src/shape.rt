@@ -1,6 +1,6 @@
 // The lengths of four planes and a picture: all that a refusal may know of the memory.
 ghost use mathlib.Core.Path.{_≡_};
-ghost use Rattle.types.specs.Lengths.{shapeOf};
+ghost use Rattle.machine_types.specs.Lengths.{shapeOf};
 
 pub struct Shape {
     pub p0: usize,

@@ -2,13 +2,13 @@
 use mathlib.Core.Path.{sym, _∙_}
 use contract.Lifetimes.{Lfts}
 use borrow.Fn.Kinds.{Dens}
-use Rattle.types.proofs.OneAnswer.{OneAnswer}
-use Rattle.types.proofs.gc.GraphicsController.new.Reads as new-controller
-use Rattle.types.proofs.gc.GraphicsController.new.Kinds as new-controller-kinds
-use Rattle.types.proofs.seq.Sequencer.new.Reads as new-sequencer
-use Rattle.types.proofs.seq.Sequencer.new.Kinds as new-sequencer-kinds
-use Rattle.types.proofs.shape.Shape.of.Reads as of-lengths
-use Rattle.types.proofs.shape.Shape.of.Kinds as of-lengths-kinds
+use Rattle.machine_types.proofs.OneAnswer.{OneAnswer}
+use Rattle.machine_types.proofs.gc.GraphicsController.new.Reads as new-controller
+use Rattle.machine_types.proofs.gc.GraphicsController.new.Kinds as new-controller-kinds
+use Rattle.machine_types.proofs.seq.Sequencer.new.Reads as new-sequencer
+use Rattle.machine_types.proofs.seq.Sequencer.new.Kinds as new-sequencer-kinds
+use Rattle.machine_types.proofs.shape.Shape.of.Reads as of-lengths
+use Rattle.machine_types.proofs.shape.Shape.of.Kinds as of-lengths-kinds
 
 module _ (κs : Lfts 0) (a : Dens κs new-controller-kinds.ps) where
   pub new-controller-determined : OneAnswer (new-controller.Post κs a)
