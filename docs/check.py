@@ -27,7 +27,7 @@ ENDINGS = "md antt rt rs c h py txt list lines tape edit out".split()
 # Words in backticks that are no names of this tree, each kind with its reason.
 EXCEPTIONS = {
     # words of the languages, and of the kit
-    "requires", "ensures", "bool", "usize", "&mut", "getD", "Option", "rt", "types.Kit", "Bool", "|", "#", "libc", "let", "abbrev",
+    "requires", "ensures", "bool", "usize", "&mut", "getD", "Option", "rt", "types", "Bool", "|", "#", "libc", "let", "abbrev", "unfolding",
     # programs that scripts build, the fields of a must-fail edit, and an option
     "test", "oracle", "file:", "old:", "new:", "--help",
     # MartyPC's names for what document 01 leaves out, or gives another shape
@@ -36,6 +36,9 @@ EXCEPTIONS = {
 }
 # Files that pages name and the tree does not have: MartyPC's own, and those that a reader makes.
 FILES = {"vram.rs", "sequencer.rs", "graphics_controller.rs", "mod.rs", "my_emulator.c", "my_emulator.rs", "draw.txt", "draw.tape"}
+
+# Modules of the kit's crates: no crate here has such a name.
+KIT_MODULES = {"types", "number", "num", "elem", "scan", "c", "path"}
 
 wrong = []
 
@@ -375,8 +378,10 @@ def check_crates():
 
 
 def check_modules():
-    """No module has the name of a crate, the kit's own included: `rt try` refuses a program that reaches both."""
+    """No module has the name of a crate, the kit's own included on both sides: `rt try` refuses a program that reaches both."""
     taken = set(crates).union(*uses.values())
+    for crate in sorted(KIT_MODULES & set(crates)):
+        tell("crates.txt", 1, f"the crate {crate} has the name of a module of the kit's")
     for path in sorted(files):
         if not re.match(r"crates/\w+/src/.*\.rt$", path):
             continue
