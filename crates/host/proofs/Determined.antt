@@ -12,7 +12,7 @@ use contract.Monad.{Fun, fact}
 use denote.Ref.{now}
 use denote.Triple.Entry.{Args}
 use denote.Triple.Clauses.{AtExit}
-use borrow.Fn.Kinds.{Dens, endedOf}
+use borrow.Fn.Kinds.{Dens}
 use Rattle.machine.specs.Memory.{Memory, lent}
 use Rattle.machine.specs.Answers.{one, outcome}
 use Rattle.machine.specs.Calls.{gcReset, gcWriteAddress, gcWriteData, cpuRead, cpuWrite}

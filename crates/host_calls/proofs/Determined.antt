@@ -1,8 +1,7 @@
 -- Any two outcomes that a function's contract permits for one input coincide. `Post` is each contract's own reading.
 use mathlib.Core.Path.{_≡_, ap, ap₂}
 use contract.Lifetimes.{Lfts}
-use denote.Triple.Clauses.{AtExit}
-use borrow.Fn.Kinds.{Dens, endedOf}
+use borrow.Fn.Kinds.{Dens}
 use Rattle.machine.specs.Memory.{lent}
 use Rattle.machine.specs.Answers.{Said, Outcome, outcome}
 use Rattle.machine.proofs.Injective.{answer-of, next-of}
@@ -10,7 +9,6 @@ use Rattle.answers.specs.declared.narrow.Answer.{Answer}
 use Rattle.answers.proofs.Told.{answer-is}
 use Rattle.host_records.specs.declared.record.ControllerRecord.{ControllerRecord}
 use Rattle.host_records.specs.declared.record.StatsRecord.{StatsRecord}
-use Rattle.host_records.specs.declared.left.StatsAnswer.{StatsAnswer}
 use Rattle.host_records.proofs.Told.{controller-answer-is}
 use Rattle.host_calls.specs.Hosted.{Held}
 use Rattle.machine_types.proofs.OneAnswer.{OneAnswer, OneOutcome}
