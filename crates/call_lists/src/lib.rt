@@ -1,13 +1,15 @@
 // Runs a list of calls through the port and prints a line for each. Every program of lists runs this very engine.
+ghost use Prim.Native.Nat.{_≤_};
+
+mod reading;
 mod session;
 mod settings;
 
-use libc::STDIN_FILENO;
+use list_calls::memory_call::called;
 use session::Session;
-use session::feed;
 
-// The most pieces of 65,536 bytes that are read of a list.
-const PIECES: usize = 1000000;
+// The most bytes that are read of a list, its end among them: 1,000,000 times what is read at once. It has no more calls than bytes.
+const BYTES: usize = 65536000000;
 
 // Runs the list on standard input. Memory has one byte a plane more than is accepted, and one pixel more than goes with that.
 pub fn run() {
@@ -16,24 +18,33 @@ pub fn run() {
     let mut p2 = [0u8; 65537];
     let mut p3 = [0u8; 65537];
     let mut picture = [0u8; 524297];
-    pieces(&mut p0, &mut p1, &mut p2, &mut p3, &mut picture);
+    let mut input = io::large_buffer();
+    calls(&mut input, &mut p0, &mut p1, &mut p2, &mut p3, &mut picture);
 }
 
-// Piece by piece, until nothing is left.
-fn pieces(p0: &mut [u8], p1: &mut [u8], p2: &mut [u8], p3: &mut [u8], picture: &mut [u8]) {
-    let mut session = Session::new();
-    let mut left = PIECES;
+// Call by call, until none on memory is due.
+fn calls(
+    input: &mut [u8; 65536],
+    p0: &mut [u8],
+    p1: &mut [u8],
+    p2: &mut [u8],
+    p3: &mut [u8],
+    picture: &mut [u8],
+) {
+    let mut session = Session::new(BYTES);
+    let mut left = BYTES;
     while left > 0 {
-        session = next_piece(session, p0, p1, p2, p3, picture);
-        if session.ended {
+        left -= 1;
+        session = session.read(input);
+        if !session.due {
             return;
         }
-        left -= 1;
+        session = lend(session, p0, p1, p2, p3, picture);
     }
 }
 
-// What standard input has next. At its end the last line ends too, with a newline or without.
-fn next_piece(
+// Lends the call that is due the first bytes of each slice, and makes it.
+fn lend(
     session: Session,
     p0: &mut [u8],
     p1: &mut [u8],
@@ -41,31 +52,25 @@ fn next_piece(
     p3: &mut [u8],
     picture: &mut [u8],
 ) -> Session {
-    let mut input = io::large_buffer();
-    let got = io::read_full(STDIN_FILENO, &mut input);
-    if got == 0 {
-        let mut last = feed(session, b'\n', p0, p1, p2, p3, picture);
-        last.ended = true;
-        return last;
-    }
-    piece(session, &input[..got], p0, p1, p2, p3, picture)
+    let lent = session.lengths();
+    let n0 = least(lent.p0, p0.len());
+    let n1 = least(lent.p1, p1.len());
+    let n2 = least(lent.p2, p2.len());
+    let n3 = least(lent.p3, p3.len());
+    let pixels = least(lent.picture, picture.len());
+    let made = called(
+        session.asked(),
+        &mut p0[..n0],
+        &mut p1[..n1],
+        &mut p2[..n2],
+        &mut p3[..n3],
+        &mut picture[..pixels],
+    );
+    session.made(made)
 }
 
-// A piece of the list, byte by byte.
-fn piece(
-    session: Session,
-    input: &[u8],
-    p0: &mut [u8],
-    p1: &mut [u8],
-    p2: &mut [u8],
-    p3: &mut [u8],
-    picture: &mut [u8],
-) -> Session {
-    let mut next = session;
-    let mut i = 0;
-    while i < input.len() {
-        next = feed(next, input[i], p0, p1, p2, p3, picture);
-        i += 1;
-    }
-    next
+fn least(length: usize, room: usize) -> usize
+    ensures { λ r. ⌜ r ≤ room ⌝ }
+{
+    if length < room { length } else { room }
 }

@@ -1,11 +1,10 @@
-// A session: both records, how much memory is lent, the line that is being read, and how many calls there were.
-ghost use Prim.Native.Nat.{_≤_};
+// A session: both records, how much memory is lent, the list as it is read, and how many calls there were.
+use crate::reading::Reading;
 use crate::settings;
+use list_calls::asked::Asked;
 use list_calls::graphics_call;
 use list_calls::memory_call;
 use list_calls::sequencer_call;
-use list_lines::line::Call;
-use list_lines::line::Line;
 use list_lines::print;
 use list_lines::said;
 use list_lines::said::GraphicsLeft;
@@ -18,14 +17,17 @@ pub struct Session {
     pub gc: GraphicsController,
     pub seq: Sequencer,
     pub lent: Shape,
-    pub line: Line,
+    pub reading: Reading,
+    // how many bytes more are read
+    pub left: usize,
     pub calls: u64,
-    pub ended: bool,
+    // whether a call on memory is still to be made
+    pub due: bool,
 }
 
 impl Session {
     // Fresh records, and the memory of the Rust.
-    pub fn new() -> Self {
+    pub fn new(bytes: usize) -> Self {
         let lent = Shape {
             p0: 65536,
             p1: 65536,
@@ -37,187 +39,120 @@ impl Session {
             gc: GraphicsController::new(),
             seq: Sequencer::new(),
             lent,
-            line: Line::new(),
+            reading: Reading::new(),
+            left: bytes,
             calls: 0,
-            ended: false,
+            due: false,
         }
     }
 
-    // One byte more; where it ends a call, that call is counted.
-    fn read(mut self, b: u8) -> Self {
-        let line = self.line;
-        if line.is_call(b) {
-            self.calls = std::num::wrapping_add_u64(self.calls, 1);
+    // Reads on, until a call on memory is due or the list has ended.
+    pub fn read(mut self, input: &mut [u8; 65536]) -> Self {
+        let mut left = self.left;
+        self.due = false;
+        while left > 0 {
+            if self.reading.ended {
+                break;
+            }
+            self = self.next(input);
+            left -= 1;
+            if self.due {
+                break;
+            }
         }
-        self.line = line.feed(b);
+        self.left = left;
         self
     }
-}
 
-// One byte of the list: at a line's end the call that it has is made, and its line printed.
-pub fn feed(
-    session: Session,
-    b: u8,
-    p0: &mut [u8],
-    p1: &mut [u8],
-    p2: &mut [u8],
-    p3: &mut [u8],
-    picture: &mut [u8],
-) -> Session {
-    let line = session.line;
-    let next = session.read(b);
-    if !line.is_call(b) {
-        return next;
+    // The list's next byte. Where it ends a call, that call is counted, and made if it is none on memory.
+    fn next(mut self, input: &mut [u8; 65536]) -> Self {
+        let before = self.reading;
+        let reading = before.next(input);
+        self.reading = reading;
+        if reading.due { self.counted() } else { self }
     }
-    let call = line.call();
-    if line.overlong {
-        told(next.calls, call.operation, Said::Overlong);
-        return next;
-    }
-    if call.operation == settings::PUT {
-        settings::put(call, p0, p1, p2, p3, picture);
-        told(next.calls, call.operation, said::done());
-        return next;
-    }
-    lend(next, call, p0, p1, p2, p3, picture)
-}
 
-// Lends a call the first bytes of each slice.
-fn lend(
-    session: Session,
-    call: Call,
-    p0: &mut [u8],
-    p1: &mut [u8],
-    p2: &mut [u8],
-    p3: &mut [u8],
-    picture: &mut [u8],
-) -> Session {
-    let lent = session.lent;
-    let n0 = least(lent.p0, p0.len());
-    let n1 = least(lent.p1, p1.len());
-    let n2 = least(lent.p2, p2.len());
-    let n3 = least(lent.p3, p3.len());
-    let pixels = least(lent.picture, picture.len());
-    made(
-        session,
-        call,
-        &mut p0[..n0],
-        &mut p1[..n1],
-        &mut p2[..n2],
-        &mut p3[..n3],
-        &mut picture[..pixels],
-    )
-}
-
-fn least(length: usize, room: usize) -> usize
-    ensures { λ r. ⌜ r ≤ room ⌝ }
-{
-    if length < room { length } else { room }
-}
-
-// The call itself, on what is lent.
-fn made(
-    session: Session,
-    call: Call,
-    p0: &mut [u8],
-    p1: &mut [u8],
-    p2: &mut [u8],
-    p3: &mut [u8],
-    picture: &mut [u8],
-) -> Session {
-    if !list_calls::store_call::is_store(call.operation) {
-        return asked(session, call, p0, p1, p2, p3, picture);
+    fn counted(mut self) -> Self {
+        let operation = self.reading.call.operation;
+        self.calls = std::num::wrapping_add_u64(self.calls, 1);
+        if self.reading.overlong {
+            told(self.calls, operation, Said::Overlong);
+            return self;
+        }
+        if memory_call::is_on_memory(operation) {
+            self.due = true;
+            return self;
+        }
+        if settings::is_setting(operation) {
+            self.set()
+        } else {
+            self.ports()
+        }
     }
-    let gc = session.gc;
-    let seq = session.seq;
-    let left = list_calls::store_call::stores(call, gc, seq, p0, p1, p2, p3, picture);
-    with_controller(session, call.operation, left)
-}
 
-// A call that leaves memory as it is: the digest, a setting, a call on a record alone, or a read.
-fn asked(
-    session: Session,
-    call: Call,
-    p0: &[u8],
-    p1: &[u8],
-    p2: &[u8],
-    p3: &[u8],
-    picture: &[u8],
-) -> Session {
-    if call.operation == 0 {
-        whole(session, p0, p1, p2, p3, picture);
-        return session;
+    // A field of a record, or a length.
+    fn set(mut self) -> Self {
+        let call = self.reading.call;
+        let operation = call.operation;
+        match operation {
+            42 => self.gc = settings::controller(call, self.gc),
+            43 => self.seq = settings::sequencer(call, self.seq),
+            _ => self.lent = settings::lengths(call, self.lent),
+        }
+        told(self.calls, operation, said::done());
+        self
     }
-    if settings::is_setting(call.operation) {
-        return set(session, call);
-    }
-    if !memory_call::is_read(call.operation) {
-        return ports(session, call);
-    }
-    let gc = session.gc;
-    let seq = session.seq;
-    let left = memory_call::reads(call, gc, seq, p0, p1, p2, p3, picture);
-    with_controller(session, call.operation, left)
-}
 
-// A field of a record, or a length.
-fn set(session: Session, call: Call) -> Session {
-    let operation = call.operation;
-    let gc = session.gc;
-    let seq = session.seq;
-    let lent = session.lent;
-    let mut next = session;
-    match operation {
-        42 => next.gc = settings::controller(call, gc),
-        43 => next.seq = settings::sequencer(call, seq),
-        _ => next.lent = settings::lengths(call, lent),
-    }
-    told(next.calls, operation, said::done());
-    next
-}
-
-// A call on one of the records alone.
-fn ports(session: Session, call: Call) -> Session {
-    let gc = session.gc;
-    let seq = session.seq;
-    if call.operation <= 18 {
-        let left = sequencer_call::ports(call, seq);
-        let kept = left.seq;
+    // A call on one of the records alone.
+    fn ports(mut self) -> Self {
+        let call = self.reading.call;
+        if call.operation > 18 {
+            return self.made(graphics_call::ports(call, self.gc));
+        }
+        let left = sequencer_call::ports(call, self.seq);
         let said = left.said;
-        let mut next = session;
-        next.seq = kept;
-        told(session.calls, call.operation, said);
-        return next;
+        let kept = left.seq;
+        self.seq = kept;
+        told(self.calls, call.operation, said);
+        self
     }
-    with_controller(session, call.operation, graphics_call::ports(call, gc))
-}
 
-// The controller's record as a call left it, once the call's line is printed.
-fn with_controller(session: Session, operation: usize, left: GraphicsLeft) -> Session {
-    let kept = left.gc;
-    let said = left.said;
-    let mut next = session;
-    next.gc = kept;
-    told(session.calls, operation, said);
-    next
-}
+    // The controller's record as a call left it, once the call's line is printed. A digest has printed its own.
+    pub fn made(mut self, left: GraphicsLeft) -> Self {
+        let operation = self.reading.call.operation;
+        let said = left.said;
+        let kept = left.gc;
+        self.gc = kept;
+        if operation != 0 {
+            told(self.calls, operation, said);
+        }
+        self
+    }
 
-// A digest's line.
-fn whole(session: Session, p0: &[u8], p1: &[u8], p2: &[u8], p3: &[u8], picture: &[u8]) {
-    let mut out = [0u8; 512];
-    let gc = session.gc;
-    let seq = session.seq;
-    let mut at = print::digits(&mut out, 0, session.calls);
-    at = print::number(&mut out, at, 0);
-    at = list_lines::digest::text(gc, seq, p0, p1, p2, p3, picture, &mut out, at);
-    print::end(&mut out, at);
+    pub fn asked(self) -> Asked {
+        Asked::new(self.calls, self.reading.call, self.gc, self.seq)
+    }
+
+    // How much of each slice the call is lent, where there is as much. A byte is put into memory itself, lent or not.
+    pub fn lengths(self) -> Shape {
+        let lent = self.lent;
+        if self.reading.call.operation != memory_call::PUT {
+            return lent;
+        }
+        Shape {
+            p0: 65537,
+            p1: 65537,
+            p2: 65537,
+            p3: 65537,
+            picture: 524297,
+        }
+    }
 }
 
 // A call's line.
 fn told(calls: u64, operation: usize, said: Said) {
     let mut out = [0u8; 512];
-    let mut at = print::digits(&mut out, 0, calls);
-    at = print::number(&mut out, at, operation as u64);
+    let mut at = print::begin(&mut out, calls, operation as u64);
     at = said::text(said, &mut out, at);
     print::end(&mut out, at);
 }

@@ -1,5 +1,5 @@
-// What no port and no call of the Rust does, for cases that ports cannot reach: any value in a field of a record, any byte in memory, any
-// length lent. Fields are numbered in the order of the digest; a field or a register of none changes nothing.
+// What no port and no call of the Rust does, for cases that ports cannot reach: any value in a field of a record, any length lent. Fields are
+// numbered in the order of the digest; a field or a register of none changes nothing.
 use list_lines::line::Call;
 use list_lines::line::low_byte;
 use machine_types::GraphicsController;
@@ -7,9 +7,6 @@ use machine_types::GraphicsControllerStats;
 use machine_types::GraphicsRegisters;
 use machine_types::Sequencer;
 use machine_types::Shape;
-
-// The operation that puts a byte into memory itself, lent or not.
-pub const PUT: usize = 44;
 
 pub fn is_setting(operation: usize) -> bool {
     match operation {
@@ -158,32 +155,4 @@ pub fn lengths(call: Call, lent: Shape) -> Shape {
         _ => {}
     }
     next
-}
-
-// Operation 44.
-pub fn put(
-    call: Call,
-    p0: &mut [u8],
-    p1: &mut [u8],
-    p2: &mut [u8],
-    p3: &mut [u8],
-    picture: &mut [u8],
-) {
-    let which = call.first;
-    let place = call.second;
-    let x = low_byte(call.third);
-    match which {
-        0 => put_byte(p0, place, x),
-        1 => put_byte(p1, place, x),
-        2 => put_byte(p2, place, x),
-        3 => put_byte(p3, place, x),
-        4 => put_byte(picture, place, x),
-        _ => {}
-    }
-}
-
-fn put_byte(bytes: &mut [u8], place: usize, x: u8) {
-    if place < bytes.len() {
-        bytes[place] = x;
-    }
 }

@@ -86,18 +86,8 @@ fn wide(byte: u8) -> u32 {
     byte as u32
 }
 
-// A digest's line from its answer on: 0 and 41 numbers.
-pub fn text(
-    gc: GraphicsController,
-    seq: Sequencer,
-    p0: &[u8],
-    p1: &[u8],
-    p2: &[u8],
-    p3: &[u8],
-    picture: &[u8],
-    out: &mut [u8; 512],
-    at: usize,
-) -> usize {
+// A digest's line from its answer on, up to the sums: 0 and 31 numbers.
+fn records(gc: GraphicsController, seq: Sequencer, out: &mut [u8; 512], at: usize) -> usize {
     let kept = gc.registers;
     let held = gc.latches;
     let counts = gc.stats;
@@ -105,10 +95,27 @@ pub fn text(
     next = registers(kept, out, next);
     next = sequencer(seq, out, next);
     next = latches(held, out, next);
-    next = stats(counts, out, next);
-    next = checksum(p0, out, next);
-    next = checksum(p1, out, next);
-    next = checksum(p2, out, next);
-    next = checksum(p3, out, next);
-    checksum(picture, out, next)
+    stats(counts, out, next)
+}
+
+// The line of a digest, which is its list's call of this number.
+pub fn print(
+    number: u64,
+    gc: GraphicsController,
+    seq: Sequencer,
+    p0: &[u8],
+    p1: &[u8],
+    p2: &[u8],
+    p3: &[u8],
+    picture: &[u8],
+) {
+    let mut out = [0u8; 512];
+    let mut at = print::begin(&mut out, number, 0);
+    at = records(gc, seq, &mut out, at);
+    at = checksum(p0, &mut out, at);
+    at = checksum(p1, &mut out, at);
+    at = checksum(p2, &mut out, at);
+    at = checksum(p3, &mut out, at);
+    at = checksum(picture, &mut out, at);
+    print::end(&mut out, at);
 }

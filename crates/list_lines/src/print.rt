@@ -49,6 +49,12 @@ pub fn numbers(out: &mut [u8; 512], at: usize, list: &[u64]) -> usize {
     next
 }
 
+// A line's begin: the call's number in its list, and its operation.
+pub fn begin(out: &mut [u8; 512], calls: u64, operation: u64) -> usize {
+    let next = digits(out, 0, calls);
+    number(out, next, operation)
+}
+
 // A number's low four bits, as a digit.
 pub fn nibble(out: &mut [u8; 512], at: usize, n: u64) -> usize {
     let digit = (n % 16) as u8;

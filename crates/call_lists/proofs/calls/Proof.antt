@@ -1,15 +1,21 @@
--- `pieces` is safe and ends: ever fewer pieces are left; the memory keeps its lengths.
-use Rattle.call_lists.proofs.Lengths.{Kept}
+-- `calls` is safe and ends: ever fewer calls are left; the memory keeps its lengths.
+use mathlib.Core.Path.{_≡_}
+use native.Mathlib.Omega.{arith}
+use lib.ListN.{length}
 use borrow.Author.Needs.{needs}
-use Rattle.call_lists.proofs.pieces.Statement.{statement}
-use Rattle.call_lists.proofs.pieces.Tie as tie
+use Rattle.call_lists.proofs.calls.Statement.{statement}
+use Rattle.call_lists.proofs.calls.Tie as tie
 
 abbrev Inv-loop : tie.InvT-loop
-Inv-loop p0₀ p1₀ p2₀ p3₀ picture₀ session₀ left₀ p0 p1 p2 p3 picture session left =
-    Kept p0 p1 p2 p3 picture p0₀ p1₀ p2₀ p3₀ picture₀
+Inv-loop input₀ p0₀ p1₀ p2₀ p3₀ picture₀ session₀ left₀ input p0 p1 p2 p3 picture session left =
+    (length p0 ≡ length p0₀)
+    × (length p1 ≡ length p1₀)
+    × (length p2 ≡ length p2₀)
+    × (length p3 ≡ length p3₀)
+    × (length picture ≡ length picture₀)
 
 abbrev μ-loop : tie.MeasureT-loop
-μ-loop p0₀ p1₀ p2₀ p3₀ picture₀ session₀ left₀ p0 p1 p2 p3 picture session left = left
+μ-loop input₀ p0₀ p1₀ p2₀ p3₀ picture₀ session₀ left₀ input p0 p1 p2 p3 picture session left = left
 
 new-requires : tie.Need-new-requires Inv-loop μ-loop
 new-requires c κs = search needs
@@ -17,8 +23,11 @@ new-requires c κs = search needs
 loop-holds : tie.Need-loop-holds Inv-loop μ-loop
 loop-holds c = search needs
 
-next-piece-requires : tie.Need-next-piece-requires Inv-loop μ-loop
-next-piece-requires c κs = search needs
+sub-left : tie.Need-sub-left Inv-loop μ-loop
+sub-left c = search needs
+
+read-requires : tie.Need-read-requires Inv-loop μ-loop
+read-requires c κs = search needs
 
 same-length : tie.Need-same-length Inv-loop μ-loop
 same-length c = search needs
@@ -38,14 +47,16 @@ same-length-5 c = search needs
 returns : tie.Need-returns Inv-loop μ-loop
 returns c = search needs
 
-sub-left : tie.Need-sub-left Inv-loop μ-loop
-sub-left c = search needs
+lend-requires : tie.Need-lend-requires Inv-loop μ-loop
+lend-requires c κs = search needs
 
 loop-less : tie.Need-loop-less Inv-loop μ-loop
-loop-less c = search needs
+loop-less c =
+    omega (arith, c .before .before .before .before .before .before .before .before .before .before .before .before .before .before .before .before .before .before .before .before .loop-test .taken)
 
 loop-again : tie.Need-loop-again Inv-loop μ-loop
-loop-again c = search needs
+loop-again c =
+    omega (arith, c .before .before .before .before .before .before .before .before .before .before .lend .kept, c .before .before .before .before .before .before .before .before .before .before .before .before .before .before .before .before .before .before .before .before .before .loop .inv)
 
 same-length-6 : tie.Need-same-length-6 Inv-loop μ-loop
 same-length-6 c = search needs
@@ -65,22 +76,23 @@ same-length-10 c = search needs
 returns-2 : tie.Need-returns-2 Inv-loop μ-loop
 returns-2 c = search needs
 
-pub pieces-spec : {M : Type 1} → statement M
-pieces-spec =
+pub calls-spec : {M : Type 1} → statement M
+calls-spec =
     tie.close
     (tie.spec
     Inv-loop
     μ-loop
     new-requires
     loop-holds
-    next-piece-requires
+    sub-left
+    read-requires
     same-length
     same-length-2
     same-length-3
     same-length-4
     same-length-5
     returns
-    sub-left
+    lend-requires
     loop-less
     loop-again
     same-length-6
