@@ -24,7 +24,7 @@ pub fn run() {
 
 // Call by call, until none on memory is due.
 fn calls(
-    input: &mut [u8; 65536],
+    input: &mut [u8],
     p0: &mut [u8],
     p1: &mut [u8],
     p2: &mut [u8],
@@ -60,6 +60,8 @@ fn lend(
     let pixels = least(lent.picture, picture.len());
     let made = called(
         session.asked(),
+        session.gc,
+        session.seq,
         &mut p0[..n0],
         &mut p1[..n1],
         &mut p2[..n2],

@@ -30,19 +30,25 @@ impl Reading {
         }
     }
 
-    // The next byte. At the list's end its last line ends too, with a newline or without.
-    pub fn next(mut self, input: &mut [u8; 65536]) -> Self {
-        if self.at >= self.held {
-            self.held = io::read_full(STDIN_FILENO, input);
-            self.at = 0;
+    // The next byte.
+    pub fn next(mut self, input: &mut [u8]) -> Self {
+        if self.at < self.held {
+            let b = byte_at(input, self.at);
+            self.at = self.at + 1;
+            return self.with(b);
         }
-        if self.at >= self.held {
+        self.filled(input)
+    }
+
+    // The first byte of what standard input has next. At its end the last line ends too, with a newline or without.
+    fn filled(mut self, input: &mut [u8]) -> Self {
+        self.held = io::read_full(STDIN_FILENO, input);
+        self.at = 1;
+        if self.held == 0 {
             self.ended = true;
             return self.with(b'\n');
         }
-        let b = byte_at(input, self.at);
-        self.at = self.at + 1;
-        self.with(b)
+        self.with(byte_at(input, 0))
     }
 
     fn with(mut self, b: u8) -> Self {

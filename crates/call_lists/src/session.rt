@@ -47,7 +47,7 @@ impl Session {
     }
 
     // Reads on, until a call on memory is due or the list has ended.
-    pub fn read(mut self, input: &mut [u8; 65536]) -> Self {
+    pub fn read(mut self, input: &mut [u8]) -> Self {
         let mut left = self.left;
         self.due = false;
         while left > 0 {
@@ -65,7 +65,7 @@ impl Session {
     }
 
     // The list's next byte. Where it ends a call, that call is counted, and made if it is none on memory.
-    fn next(mut self, input: &mut [u8; 65536]) -> Self {
+    fn next(mut self, input: &mut [u8]) -> Self {
         let before = self.reading;
         let reading = before.next(input);
         self.reading = reading;
@@ -130,7 +130,7 @@ impl Session {
     }
 
     pub fn asked(self) -> Asked {
-        Asked::new(self.calls, self.reading.call, self.gc, self.seq)
+        Asked::new(self.calls, self.reading.call)
     }
 
     // How much of each slice the call is lent, where there is as much. A byte is put into memory itself, lent or not.

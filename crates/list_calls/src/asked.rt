@@ -1,18 +1,12 @@
-// A call on memory: both records, and the arguments of its line as the port takes them.
+// A call on memory: the arguments of its line as the port takes them.
 use list_lines::line::Call;
 use list_lines::line::low_byte;
-use list_lines::said::GraphicsLeft;
-use list_lines::said::Said;
-use machine_types::GraphicsController;
 use machine_types::PlaneOffset;
-use machine_types::Sequencer;
 
 pub struct Asked {
     // of the call in its list, from 1 on
     pub number: u64,
     pub operation: usize,
-    pub gc: GraphicsController,
-    pub seq: Sequencer,
     // a plane, an address, an offset or a pixel place
     pub first: usize,
     pub offset: PlaneOffset,
@@ -23,7 +17,7 @@ pub struct Asked {
 }
 
 impl Asked {
-    pub fn new(number: u64, call: Call, gc: GraphicsController, seq: Sequencer) -> Self {
+    pub fn new(number: u64, call: Call) -> Self {
         let operation = call.operation;
         let stored = match operation {
             24..=26 => call.fourth,
@@ -32,19 +26,11 @@ impl Asked {
         Asked {
             number,
             operation,
-            gc,
-            seq,
             first: call.first,
             offset: PlaneOffset(call.second),
             page: call.second == 1,
             a0: call.third == 1,
             byte: low_byte(stored),
         }
-    }
-
-    // What a call says that leaves the controller's record as it is.
-    pub fn kept(self, said: Said) -> GraphicsLeft {
-        let gc = self.gc;
-        GraphicsLeft { gc, said }
     }
 }

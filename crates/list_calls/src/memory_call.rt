@@ -2,7 +2,6 @@
 use crate::asked::Asked;
 use crate::reads::reads;
 use crate::stores::direct;
-use crate::stores::left;
 use crate::stores::put;
 use answers::of_done;
 use answers::of_store;
@@ -10,7 +9,12 @@ use graphics_controller::cpu_write_u8;
 use list_lines::said::GraphicsLeft;
 use list_lines::said::answer;
 use list_lines::said::done;
+use list_lines::said::kept;
+use machine_types::CpuStore;
+use machine_types::GraphicsController;
 use machine_types::PlaneOffset;
+use machine_types::Sequencer;
+use machine_types::StoreAnswer;
 use vram::deplane;
 
 // The operation that puts a byte into memory itself, lent or not.
@@ -25,6 +29,8 @@ pub fn is_on_memory(operation: usize) -> bool {
 
 pub fn called(
     a: Asked,
+    gc: GraphicsController,
+    seq: Sequencer,
     p0: &mut [u8],
     p1: &mut [u8],
     p2: &mut [u8],
@@ -33,24 +39,26 @@ pub fn called(
 ) -> GraphicsLeft {
     let operation = a.operation;
     match operation {
-        6..=9 | 24..=26 => a.kept(answer(of_store(direct(a, p0, p1, p2, p3, picture)))),
-        10 => a.kept(answer(of_done(deplane(p0, p1, p2, p3, picture, PlaneOffset(a.first))))),
-        40 => left(cpu_write_u8(
-            a.gc,
-            a.seq,
-            p0,
-            p1,
-            p2,
-            p3,
-            picture,
-            a.first,
-            a.page,
-            a.byte,
-        )),
+        6..=9 | 24..=26 => stored(gc, direct(a, seq, p0, p1, p2, p3, picture)),
+        10 => kept(
+            gc,
+            answer(of_done(deplane(p0, p1, p2, p3, picture, PlaneOffset(a.first)))),
+        ),
+        40 => left(cpu_write_u8(gc, seq, p0, p1, p2, p3, picture, a.first, a.page, a.byte)),
         44 => {
             put(a, p0, p1, p2, p3, picture);
-            a.kept(done())
+            kept(gc, done())
         }
-        _ => reads(a, p0, p1, p2, p3, picture),
+        _ => reads(a, gc, seq, p0, p1, p2, p3, picture),
     }
+}
+
+fn stored(gc: GraphicsController, given: StoreAnswer) -> GraphicsLeft {
+    kept(gc, answer(of_store(given)))
+}
+
+fn left(r: CpuStore) -> GraphicsLeft {
+    let gc = r.gc;
+    let given = r.answer;
+    stored(gc, given)
 }

@@ -3,28 +3,43 @@ use crate::asked::Asked;
 use answers::of_byte;
 use answers::of_part;
 use answers::of_pixel;
+use graphics_controller::cpu_peek_u8;
+use graphics_controller::cpu_read_u8;
+use graphics_controller::serialize;
 use list_lines::said::GraphicsLeft;
 use list_lines::said::Said;
 use list_lines::said::answer;
 use list_lines::said::done;
+use list_lines::said::kept;
 use list_lines::said::shown;
 use machine_types::CpuByte;
+use machine_types::GraphicsController;
 use machine_types::PixelPlace;
 use machine_types::PlaneOffset;
+use machine_types::Sequencer;
 
 // What a show's number is before the call: no answer has it.
 const UNTOLD: u8 = 255;
 
-pub fn reads(a: Asked, p0: &[u8], p1: &[u8], p2: &[u8], p3: &[u8], picture: &[u8]) -> GraphicsLeft {
+pub fn reads(
+    a: Asked,
+    gc: GraphicsController,
+    seq: Sequencer,
+    p0: &[u8],
+    p1: &[u8],
+    p2: &[u8],
+    p3: &[u8],
+    picture: &[u8],
+) -> GraphicsLeft {
     let operation = a.operation;
     match operation {
         0 => {
-            list_lines::digest::print(a.number, a.gc, a.seq, p0, p1, p2, p3, picture);
-            a.kept(done())
+            list_lines::digest::print(a.number, gc, seq, p0, p1, p2, p3, picture);
+            kept(gc, done())
         }
-        1..=5 => a.kept(of_memory(a, p0, p1, p2, p3, picture)),
-        19..=23 => a.kept(of_sequencer(a, p0, p1, p2, p3, picture)),
-        _ => of_controller(a, p0, p1, p2, p3, picture),
+        1..=5 => kept(gc, of_memory(a, p0, p1, p2, p3, picture)),
+        19..=23 => kept(gc, of_sequencer(a, seq, p0, p1, p2, p3, picture)),
+        _ => of_controller(a, gc, seq, p0, p1, p2, p3, picture),
     }
 }
 
@@ -44,9 +59,16 @@ fn of_memory(a: Asked, p0: &[u8], p1: &[u8], p2: &[u8], p3: &[u8], picture: &[u8
     }
 }
 
-fn of_sequencer(a: Asked, p0: &[u8], p1: &[u8], p2: &[u8], p3: &[u8], picture: &[u8]) -> Said {
+fn of_sequencer(
+    a: Asked,
+    seq: Sequencer,
+    p0: &[u8],
+    p1: &[u8],
+    p2: &[u8],
+    p3: &[u8],
+    picture: &[u8],
+) -> Said {
     let operation = a.operation;
-    let seq = a.seq;
     let at = a.first;
     let o = a.offset;
     let a0 = a.a0;
@@ -69,6 +91,8 @@ fn of_sequencer(a: Asked, p0: &[u8], p1: &[u8], p2: &[u8], p3: &[u8], picture: &
 
 fn of_controller(
     a: Asked,
+    gc: GraphicsController,
+    seq: Sequencer,
     p0: &[u8],
     p1: &[u8],
     p2: &[u8],
@@ -76,58 +100,23 @@ fn of_controller(
     picture: &[u8],
 ) -> GraphicsLeft {
     let operation = a.operation;
-    let gc = a.gc;
-    let seq = a.seq;
     match operation {
-        38 => left(graphics_controller::cpu_read_u8(
-            gc,
-            seq,
-            p0,
-            p1,
-            p2,
-            p3,
-            picture,
-            a.first,
-            a.page,
-        )),
+        38 => left(cpu_read_u8(gc, seq, p0, p1, p2, p3, picture, a.first, a.page)),
         39 => {
-            let byte = graphics_controller::cpu_peek_u8(
-                gc,
-                seq,
-                p0,
-                p1,
-                p2,
-                p3,
-                picture,
-                a.first,
-                a.page,
-            );
-            a.kept(answer(of_byte(byte)))
+            let byte = cpu_peek_u8(gc, seq, p0, p1, p2, p3, picture, a.first, a.page);
+            kept(gc, answer(of_byte(byte)))
         }
         _ => {
             let mut number = UNTOLD;
             let o = PlaneOffset(a.first);
-            let part = graphics_controller::serialize(
-                gc,
-                seq,
-                p0,
-                p1,
-                p2,
-                p3,
-                picture,
-                o,
-                &mut number,
-            );
-            a.kept(shown(of_part(number, part)))
+            let part = serialize(gc, seq, p0, p1, p2, p3, picture, o, &mut number);
+            kept(gc, shown(of_part(number, part)))
         }
     }
 }
 
 fn left(r: CpuByte) -> GraphicsLeft {
-    let kept = r.gc;
+    let gc = r.gc;
     let byte = r.answer;
-    GraphicsLeft {
-        gc: kept,
-        said: answer(of_byte(byte)),
-    }
+    kept(gc, answer(of_byte(byte)))
 }

@@ -1,14 +1,15 @@
 // Calls that store, of each layer, and the operation that puts a byte into memory itself.
 use crate::asked::Asked;
-use answers::of_store;
-use list_lines::said::GraphicsLeft;
-use list_lines::said::answer;
-use machine_types::CpuStore;
+use machine_types::Sequencer;
 use machine_types::StoreAnswer;
+use sequencer::plane_and;
+use sequencer::plane_or;
+use sequencer::plane_set;
 
 // The direct ones, of memory and of the sequencer.
 pub fn direct(
     a: Asked,
+    seq: Sequencer,
     p0: &mut [u8],
     p1: &mut [u8],
     p2: &mut [u8],
@@ -21,8 +22,8 @@ pub fn direct(
         7 => vram::plane_set(p0, p1, p2, p3, picture, a.first, a.offset, a.byte),
         8 => vram::plane_and(p0, p1, p2, p3, picture, a.first, a.offset, a.byte),
         9 => vram::plane_or(p0, p1, p2, p3, picture, a.first, a.offset, a.byte),
-        24 => sequencer::plane_set(
-            a.seq,
+        24 => plane_set(
+            seq,
             p0,
             p1,
             p2,
@@ -33,8 +34,8 @@ pub fn direct(
             a.a0,
             a.byte,
         ),
-        25 => sequencer::plane_and(
-            a.seq,
+        25 => plane_and(
+            seq,
             p0,
             p1,
             p2,
@@ -45,8 +46,8 @@ pub fn direct(
             a.a0,
             a.byte,
         ),
-        _ => sequencer::plane_or(
-            a.seq,
+        _ => plane_or(
+            seq,
             p0,
             p1,
             p2,
@@ -57,16 +58,6 @@ pub fn direct(
             a.a0,
             a.byte,
         ),
-    }
-}
-
-// What the processor's write leaves and says.
-pub fn left(r: CpuStore) -> GraphicsLeft {
-    let kept = r.gc;
-    let stored = r.answer;
-    GraphicsLeft {
-        gc: kept,
-        said: answer(of_store(stored)),
     }
 }
 

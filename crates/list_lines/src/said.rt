@@ -28,6 +28,11 @@ pub struct GraphicsLeft {
     pub said: Said,
 }
 
+// What a call says that leaves the controller's record as it is.
+pub fn kept(gc: GraphicsController, said: Said) -> GraphicsLeft {
+    GraphicsLeft { gc, said }
+}
+
 // Done, with nothing handed back.
 pub fn done() -> Said {
     Said::Value(0, 0)

@@ -1,4 +1,4 @@
--- `calls` is safe and ends: ever fewer calls are left; the memory keeps its lengths.
+-- `calls` is safe and ends: ever fewer calls are left; the buffer and the memory keep their lengths.
 use mathlib.Core.Path.{_≡_}
 use native.Mathlib.Omega.{arith}
 use lib.ListN.{length}
@@ -8,7 +8,8 @@ use Rattle.call_lists.proofs.calls.Tie as tie
 
 abbrev Inv-loop : tie.InvT-loop
 Inv-loop input₀ p0₀ p1₀ p2₀ p3₀ picture₀ session₀ left₀ input p0 p1 p2 p3 picture session left =
-    (length p0 ≡ length p0₀)
+    (length input ≡ length input₀)
+    × (length p0 ≡ length p0₀)
     × (length p1 ≡ length p1₀)
     × (length p2 ≡ length p2₀)
     × (length p3 ≡ length p3₀)
@@ -44,6 +45,9 @@ same-length-4 c = search needs
 same-length-5 : tie.Need-same-length-5 Inv-loop μ-loop
 same-length-5 c = search needs
 
+same-length-6 : tie.Need-same-length-6 Inv-loop μ-loop
+same-length-6 c = search needs
+
 returns : tie.Need-returns Inv-loop μ-loop
 returns c = search needs
 
@@ -52,14 +56,11 @@ lend-requires c κs = search needs
 
 loop-less : tie.Need-loop-less Inv-loop μ-loop
 loop-less c =
-    omega (arith, c .before .before .before .before .before .before .before .before .before .before .before .before .before .before .before .before .before .before .before .before .loop-test .taken)
+    omega (arith, c .before .before .before .before .before .before .before .before .before .before .before .before .before .before .before .before .before .before .before .before .before .before .loop-test .taken)
 
 loop-again : tie.Need-loop-again Inv-loop μ-loop
 loop-again c =
-    omega (arith, c .before .before .before .before .before .before .before .before .before .before .lend .kept, c .before .before .before .before .before .before .before .before .before .before .before .before .before .before .before .before .before .before .before .before .before .loop .inv)
-
-same-length-6 : tie.Need-same-length-6 Inv-loop μ-loop
-same-length-6 c = search needs
+    omega (arith, c .before .before .before .before .before .before .before .before .before .before .lend .kept, c .before .before .before .before .before .before .before .before .before .before .before .before .before .before .before .before .before .before .before .before .read .kept, c .before .before .before .before .before .before .before .before .before .before .before .before .before .before .before .before .before .before .before .before .before .before .before .loop .inv)
 
 same-length-7 : tie.Need-same-length-7 Inv-loop μ-loop
 same-length-7 c = search needs
@@ -72,6 +73,12 @@ same-length-9 c = search needs
 
 same-length-10 : tie.Need-same-length-10 Inv-loop μ-loop
 same-length-10 c = search needs
+
+same-length-11 : tie.Need-same-length-11 Inv-loop μ-loop
+same-length-11 c = search needs
+
+same-length-12 : tie.Need-same-length-12 Inv-loop μ-loop
+same-length-12 c = search needs
 
 returns-2 : tie.Need-returns-2 Inv-loop μ-loop
 returns-2 c = search needs
@@ -91,13 +98,15 @@ calls-spec =
     same-length-3
     same-length-4
     same-length-5
+    same-length-6
     returns
     lend-requires
     loop-less
     loop-again
-    same-length-6
     same-length-7
     same-length-8
     same-length-9
     same-length-10
+    same-length-11
+    same-length-12
     returns-2)

@@ -1,11 +1,12 @@
--- `read` is safe and ends: ever fewer bytes are left.
-use Prim.Native.Nat.{_≤_}
+-- `read` is safe and ends: ever fewer bytes are left; the buffer keeps its length.
+use mathlib.Core.Path.{_≡_}
+use lib.ListN.{length}
 use borrow.Author.Needs.{needs}
 use Rattle.call_lists.proofs.session.Session.read.Statement.{statement}
 use Rattle.call_lists.proofs.session.Session.read.Tie as tie
 
 abbrev Inv-loop : tie.InvT-loop
-Inv-loop self₀ input₀ left₀ self input left = left ≤ left₀
+Inv-loop self₀ input₀ left₀ self input left = length input ≡ length input₀
 
 abbrev μ-loop : tie.MeasureT-loop
 μ-loop self₀ input₀ left₀ self input left = left
@@ -25,11 +26,20 @@ loop-less c = search needs
 loop-again : tie.Need-loop-again Inv-loop μ-loop
 loop-again c = search needs
 
+same-length : tie.Need-same-length Inv-loop μ-loop
+same-length c = search needs
+
 returns : tie.Need-returns Inv-loop μ-loop
 returns c = search needs
 
+same-length-2 : tie.Need-same-length-2 Inv-loop μ-loop
+same-length-2 c = search needs
+
 returns-2 : tie.Need-returns-2 Inv-loop μ-loop
 returns-2 c = search needs
+
+same-length-3 : tie.Need-same-length-3 Inv-loop μ-loop
+same-length-3 c = search needs
 
 returns-3 : tie.Need-returns-3 Inv-loop μ-loop
 returns-3 c = search needs
@@ -45,6 +55,9 @@ read-spec =
     sub-left
     loop-less
     loop-again
+    same-length
     returns
+    same-length-2
     returns-2
+    same-length-3
     returns-3)
