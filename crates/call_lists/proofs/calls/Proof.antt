@@ -54,13 +54,22 @@ returns c = search needs
 lend-requires : tie.Need-lend-requires Inv-loop μ-loop
 lend-requires c κs = search needs
 
+-- the loop's test, which a search from a turn's end does not go back to
+in-loop-of : tie.After-read Inv-loop μ-loop → tie.In-loop Inv-loop μ-loop
+in-loop-of after-read = search needs
+
 loop-less : tie.Need-loop-less Inv-loop μ-loop
+unfolding in-loop-of
 loop-less c =
-    omega (arith, c .before .before .before .before .before .before .before .before .before .before .before .before .before .before .before .before .before .before .before .before .before .before .loop-test .taken)
+    let after-read : tie.After-read Inv-loop μ-loop = search needs in
+    omega (arith, in-loop-of after-read .loop-test .taken)
 
 loop-again : tie.Need-loop-again Inv-loop μ-loop
 loop-again c =
-    omega (arith, c .before .before .before .before .before .before .before .before .before .before .lend .kept, c .before .before .before .before .before .before .before .before .before .before .before .before .before .before .before .before .before .before .before .before .read .kept, c .before .before .before .before .before .before .before .before .before .before .before .before .before .before .before .before .before .before .before .before .before .before .before .loop .inv)
+    let after-lend : tie.After-lend Inv-loop μ-loop = search needs in
+    let after-read : tie.After-read Inv-loop μ-loop = search needs in
+    let at-loop : tie.At-loop Inv-loop μ-loop = search needs in
+    omega (arith, after-lend .lend .kept, after-read .read .kept, at-loop .loop .inv)
 
 same-length-7 : tie.Need-same-length-7 Inv-loop μ-loop
 same-length-7 c = search needs
