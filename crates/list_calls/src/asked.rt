@@ -9,7 +9,7 @@ pub struct Asked {
     pub operation: usize,
     // a plane, an address, an offset or a pixel place
     pub first: usize,
-    pub offset: PlaneOffset,
+    pub at: PlaneOffset,
     pub page: bool,
     pub a0: bool,
     // what is stored: of the sequencer's stores the fourth argument, of all others the third
@@ -27,7 +27,7 @@ impl Asked {
             number,
             operation,
             first: call.first,
-            offset: PlaneOffset(call.second),
+            at: PlaneOffset(call.second),
             page: call.second == 1,
             a0: call.third == 1,
             byte: low_byte(stored),

@@ -47,8 +47,8 @@ fn of_memory(a: Asked, p0: &[u8], p1: &[u8], p2: &[u8], p3: &[u8], picture: &[u8
     let operation = a.operation;
     let o = PlaneOffset(a.first);
     match operation {
-        1 => answer(of_byte(vram::read_u8(p0, p1, p2, p3, picture, a.first, a.offset))),
-        2 => answer(of_byte(vram::peek_u8(p0, p1, p2, p3, picture, a.first, a.offset))),
+        1 => answer(of_byte(vram::read_u8(p0, p1, p2, p3, picture, a.first, a.at))),
+        2 => answer(of_byte(vram::peek_u8(p0, p1, p2, p3, picture, a.first, a.at))),
         3 => answer(of_byte(vram::read_glyph(p0, p1, p2, p3, picture, o))),
         4 => answer(of_pixel(vram::read_linear(p0, p1, p2, p3, picture, PixelPlace(a.first)))),
         _ => {
@@ -70,7 +70,7 @@ fn of_sequencer(
 ) -> Said {
     let operation = a.operation;
     let at = a.first;
-    let o = a.offset;
+    let o = a.at;
     let a0 = a.a0;
     match operation {
         19 => answer(of_byte(sequencer::cpu_read_u8(seq, p0, p1, p2, p3, picture, at, o, a0))),

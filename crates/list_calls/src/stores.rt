@@ -18,46 +18,13 @@ pub fn direct(
 ) -> StoreAnswer {
     let operation = a.operation;
     match operation {
-        6 => vram::write_u8(p0, p1, p2, p3, picture, a.first, a.offset, a.byte),
-        7 => vram::plane_set(p0, p1, p2, p3, picture, a.first, a.offset, a.byte),
-        8 => vram::plane_and(p0, p1, p2, p3, picture, a.first, a.offset, a.byte),
-        9 => vram::plane_or(p0, p1, p2, p3, picture, a.first, a.offset, a.byte),
-        24 => plane_set(
-            seq,
-            p0,
-            p1,
-            p2,
-            p3,
-            picture,
-            a.first,
-            a.offset,
-            a.a0,
-            a.byte,
-        ),
-        25 => plane_and(
-            seq,
-            p0,
-            p1,
-            p2,
-            p3,
-            picture,
-            a.first,
-            a.offset,
-            a.a0,
-            a.byte,
-        ),
-        _ => plane_or(
-            seq,
-            p0,
-            p1,
-            p2,
-            p3,
-            picture,
-            a.first,
-            a.offset,
-            a.a0,
-            a.byte,
-        ),
+        6 => vram::write_u8(p0, p1, p2, p3, picture, a.first, a.at, a.byte),
+        7 => vram::plane_set(p0, p1, p2, p3, picture, a.first, a.at, a.byte),
+        8 => vram::plane_and(p0, p1, p2, p3, picture, a.first, a.at, a.byte),
+        9 => vram::plane_or(p0, p1, p2, p3, picture, a.first, a.at, a.byte),
+        24 => plane_set(seq, p0, p1, p2, p3, picture, a.first, a.at, a.a0, a.byte),
+        25 => plane_and(seq, p0, p1, p2, p3, picture, a.first, a.at, a.a0, a.byte),
+        _ => plane_or(seq, p0, p1, p2, p3, picture, a.first, a.at, a.a0, a.byte),
     }
 }
 
@@ -82,7 +49,7 @@ pub fn put(
 }
 
 fn put_byte(a: Asked, bytes: &mut [u8]) {
-    let place = a.offset.0;
+    let place = a.at.0;
     if place < bytes.len() {
         bytes[place] = a.byte;
     }
