@@ -19,4 +19,4 @@ pub mod DataPath
 pub mod RegisterRules
 pub mod DirectRules
 pub mod AccessRules
-pub mod Bit14
+pub mod Window128K

@@ -1,7 +1,7 @@
 -- Address to offset: the windows, the four memory maps, chain odd/even and the page bit.
 use Prim.Native.Nat.{ℕ, _+_, _-_, _*_, _/_, _%_}
 use mathlib.Core.Bool.{Bool, false, _&&_}
-use lib.Dec.{ltb, leb}
+use lib.Dec.{leb}
 use Rattle.bits.specs.Bit.{bit, isOne, bitOf, pick}
 use Rattle.machine_types.specs.declared.gc.MemoryMap.{MemoryMap}
 use Rattle.machine_types.specs.declared.gc.MemoryMap.the-variants.{«A0000_128k», «A0000_64K», «B0000_32K», «B8000_32K»}
@@ -23,10 +23,10 @@ a0 x = isOne (bit 0 x)
 abbrev pub withBit0 : ℕ → ℕ → ℕ
 withBit0 b x = x / 2 * 2 + b
 
--- 128K, chain set: bit 16 goes to bit 0 if the address is above FFFF, else bit 14; clear: address as it stands.
+-- 128K, chain set: bit 16 goes to bit 0; clear: address as it stands.
 -- 64K, chain set: bit 0 becomes the page bit; clear: address minus A0000. B8000: minus B8000
 unfoldable pub mapped : MemoryMap → Bool → ℕ → Bool → ℕ
-mapped «A0000_128k» chain x page = pick chain (withBit0 (bit (pick (ltb 0xFFFF x) 16 14) x) x) x
+mapped «A0000_128k» chain x page = pick chain (withBit0 (bit 16 x) x) x
 mapped «A0000_64K» chain x page = pick chain (withBit0 (bitOf page) x) (x - 0xA0000)
 mapped «B0000_32K» chain x page = 0
 mapped «B8000_32K» chain x page = x - 0xB8000

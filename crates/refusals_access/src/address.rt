@@ -53,17 +53,14 @@ fn with_bit0(address: usize, bit: usize) -> usize
     (address & !1) | bit
 }
 
-// 128K: under chain odd/even bit 0 becomes bit 16 of an address above FFFF, or else bit 14.
+// 128K: under chain odd/even bit 0 becomes bit 16.
 fn mapped_128k(chain: bool, address: usize, page: bool) -> usize
     ensures { λ r. ⌜ r ≡ mapped MemoryMap.«A0000_128k» chain address page ⌝ }
 {
     if !chain {
         return address;
     }
-    if address > 0xFFFF {
-        return with_bit0(address, (address >> 16) & 1);
-    }
-    with_bit0(address, (address >> 14) & 1)
+    with_bit0(address, (address >> 16) & 1)
 }
 
 // 64K: under chain odd/even bit 0 becomes the page bit.
