@@ -175,7 +175,7 @@ class Model:
         refuse_if(not first <= address <= last, 2)
         offset = address if self.map_number() == 0 else address - first
         if bit(self.gc[MISCELLANEOUS], 1) and self.map_number() < 2:
-            low = int(page == 1) if self.map_number() == 1 else bit(address, 16 if address > 0xFFFF else 14)
+            low = int(page == 1) if self.map_number() == 1 else bit(address, 16)
             offset = offset - offset % 2 + low
         return offset % 65536, address % 2
 

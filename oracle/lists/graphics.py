@@ -219,4 +219,37 @@ def orders():
     calls((41, 2), (38, 0xB0002, 0), (40, 0xB0002, 0, 0), (39, 0xB0002, 0), (DIGEST,))
 
 
-PARTS = ports, addresses, modes, reads, masks, counters, outside, shows, refusals, lengths, orders
+# addresses of the 128K window, and the offset that each leads to under chain odd/even: its bit 16 goes to bit 0, whatever its bit 14
+CHAINED = [(0xA0000, 0), (0xA4000, 0x4000), (0xA4001, 0x4000), (0xAC001, 0xC000), (0xB0000, 1), (0xB0001, 1), (0xB4000, 0x4001),
+           (0xBC001, 0xC001), (0xBFFFF, 0xFFFF)]
+# addresses with bit 14 set that no window has: up to FFFF, and past 32 bits
+UNMAPPED = [0x4000, 0x7FFF, 0xFFFF, 0x1000A4000, HUGE + 0xA4000, 2 ** 64 - 1]
+
+
+def bit_14():
+    for miscellaneous in 2, 3:
+        case(f"128K, chain odd/even, Miscellaneous {miscellaneous}: bits 14 and 16 set and clear, the window's ends, and outside it with bit 14 set; both pages")
+        call(27)
+        data((6, miscellaneous))
+        for address in [*(address for address, _ in CHAINED), 0x9FFFF, 0xC0000, 0x1000A0000, *UNMAPPED]:
+            calls((37, address, 0), (37, address, 1))
+    lend_all(65536)
+    masked()
+    for miscellaneous in 2, 3:
+        case(f"Miscellaneous {miscellaneous}: each address written, read and peeked in both pages; planes 0 and 3 at its offset, plane 0 at the neighbour")
+        call(27)
+        data((6, miscellaneous), (8, 0xFF))
+        for byte, (address, offset) in enumerate(CHAINED, 16 * miscellaneous):
+            for page in 0, 1:
+                calls((40, address, page, byte + 128 * page), (38, address, page), (39, address, page))
+                calls((1, 0, offset), (1, 3, offset), (1, 0, offset ^ 1))
+        call(DIGEST)
+        for address in UNMAPPED:
+            calls((38, address, 0), (39, address, 1), (40, address, 0, 0x5A))
+        call(DIGEST)
+    case("offsets 0 and 1 as they were before")
+    fill([0, 1], [0x12, 0x34, 0x56, 0x78], 0x0E)
+    call(10, 0)
+
+
+PARTS = ports, addresses, modes, reads, masks, counters, outside, shows, refusals, lengths, orders, bit_14
