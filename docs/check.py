@@ -1,6 +1,6 @@
 """docs/check: what the pages cite, looked up in the tree.
 
-Names: in PROMISES.md, DECISIONS.md, CHANGING.md and both READMEs each word in backticks is a definition, theorem, function, type, field, crate, must-fail edit, operation
+Names: in PROMISES.md, DECISIONS.md, CHANGING.md, the pages of docs/changes and both READMEs each word in backticks is a definition, theorem, function, type, field, crate, must-fail edit, operation
 of a tape's text, script or path of the tree, or stands in EXCEPTIONS. `a::b` is looked up part by part, `a_..` as the start of a name, `_b` as the end of one, and
 a word of capitals (`NAME-determined`) stands for anything. Where a page says in which crate or file a name stands, it must stand there:
 
@@ -19,7 +19,7 @@ import os
 import re
 import sys
 
-NAMED = ["README.md", "host/README.md", "docs/PROMISES.md", "docs/DECISIONS.md", "docs/CHANGING.md"]
+NAMED = ["README.md", "host/README.md", "docs/PROMISES.md", "docs/DECISIONS.md", "docs/CHANGING.md", *sorted(glob.glob("docs/changes/*.md"))]
 PAGES = NAMED + ["docs/COST.md", "docs/DIFFERENCES.md", "docs/SWEEP.md", "oracle/README.md", "sweep/README.md"]
 FOLDERS = "crates docs host oracle tape sweep bench .ci".split()
 ENDINGS = "md antt rt rs c h py txt list lines tape edit out".split()

@@ -79,7 +79,7 @@ def definition_edits(crate):
 
 def picked(files, options):
     """The edits to try, in their order."""
-    some = [edits.chosen(f, f'{options.seed}/{f[0].path}', options.most) for f in files if f]
+    some = [edits.chosen(f, f'{options.seed}/{f[0].path}', options.most) for f in files if f and options.only in ('', f[0].path.stem)]
     order = edits.in_turn(some)
     return list(enumerate(order, 1))[options.start - 1:options.to]
 
@@ -192,6 +192,8 @@ def known(options, words):
     area = options.crate if options.what != 'one' else options.id.split('/')[0].removesuffix('specs').rstrip('.') or 'machine'
     if options.what in ('src', 'specs', 'one') and not Path(f'crates/{area}/{"specs" if options.what == "specs" else "src"}').is_dir():
         refuse(f'there is no crate {area}{" with definitions" if options.what == "specs" else ""}')
+    if options.only and (options.what not in ('src', 'specs') or not list(Path(f'crates/{area}/{options.what}').glob(f'{options.only}.*'))):
+        refuse(f'there is no file {options.only} among what is tried')
 
 
 def arguments():
@@ -203,6 +205,7 @@ def arguments():
     parser.add_argument('--to', type=int, default=None)
     parser.add_argument('--seed', type=int, default=SEED)
     parser.add_argument('--most', type=int, default=40, help='edits a file')
+    parser.add_argument('--only', default='', help='edits of this file alone')
     parser.add_argument('--again', action='store_true')
     options = parser.parse_args()
     options.list = options.words[:1] == ['list']

@@ -111,6 +111,7 @@ module _ (r : GraphicsRegisters) (x : ℕ) (page : Bool) where
         go true e = rw (in-window e)
         go false e = rw e
 
+    -- where it is 0, the offset is the same too
     pub offset-stays : accessNumber r s h x page ≡ 0 → offsetAsWritten r x page ≡ offset r x page
     unfolding accessNumber
     offset-stays e = in-window (refuse-0 _ 1 _ (refuse-0 (sound h) 0 _ (refuse-0 (fitsBoth r s) 5 _ e .1) .1) .0)
@@ -160,7 +161,7 @@ mapped-behind : (n o q a : ℕ) (g : GraphicsController) → (n ≡ 0 → two o 
 mapped-behind zero o q a g same = ap (λ (v : Value). outcome (said 0 v) g) (same refl)
 mapped-behind (suc n) o q a g same = refl
 
--- and so does `map_address`
+-- `map_address` answers the same, and leaves the record
 pub map-address-stays : (g : GraphicsController) (x : ℕ) (page : Bool)
     → answered (gcNumberOf (g .registers) (gcMapAddress x page)) (two (offsetAsWritten (g .registers) x page) (bitOf (a0 x))) g g ≡ graphicsStep g (gcMapAddress x page)
 unfolding graphicsStep gcValue gcNext
