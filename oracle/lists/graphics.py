@@ -228,7 +228,7 @@ UNMAPPED = [0x4000, 0x7FFF, 0xFFFF, 0x1000A4000, HUGE + 0xA4000, 2 ** 64 - 1]
 
 def bit_14():
     for miscellaneous in 2, 3:
-        case(f"128K, chain odd/even, Miscellaneous {miscellaneous}: bits 14 and 16 set and clear, the window's ends, and outside it with bit 14 set; both pages")
+        case(f"128K, chain odd/even, Miscellaneous {miscellaneous}: bits 14 and 16 set and clear, the window's ends, addresses outside it; both pages")
         call(27)
         data((6, miscellaneous))
         for address in [*(address for address, _ in CHAINED), 0x9FFFF, 0xC0000, 0x1000A0000, *UNMAPPED]:
