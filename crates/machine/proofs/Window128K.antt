@@ -1,9 +1,10 @@
 -- Bit 14 in the 128K window: a branch of document 01's rule, as it was written, that no address reaches. Without it every answer stays the same.
-use Prim.Native.Nat.{ℕ, zero, suc, _-_, _*_, _%_, _<_}
+use Prim.Native.Nat.{ℕ, zero, suc, _-_, _%_, _<_}
 use native.Mathlib.Omega.{arith}
 use mathlib.Core.Path.{_≡_, refl, sym, ap, _∙_}
 use mathlib.Core.Bool.{Bool, true, false}
-use mathlib.Core.List.{List, [], _∷_}
+use mathlib.Core.List.{List, [], _∷_, _++_}
+use lib.ListN.{take}
 use lib.Dec.{ltb}
 use borrow.Author.Tests.{leb-true, lt-ltb}
 use Rattle.bits.specs.Bit.{bit, bitOf, pick}
@@ -19,14 +20,40 @@ use Rattle.machine.specs.Memory.{Memory, shape, sound}
 use Rattle.machine.specs.Answers.{Value, one, two, blank, said, outcome, answered}
 use Rattle.machine.specs.Graphics.{fitsGc, chained, memoryMap, readMode, writeMode}
 use Rattle.machine.specs.Address.{inWindow, a0, withBit0, mapped, offset}
-use Rattle.machine.specs.Deeds.{rest, load, known, byteAt, pixelsAt, plan, memoryAfter, valueOf}
-use Rattle.machine.specs.Calls.{refuse, checkOffset, fitsBoth, accessNumber, showNumber, gcMapAddress, gcNumberOf, gcValue, gcNext}
-use Rattle.machine.specs.Calls.{CpuCall, cpuRead, cpuPeek, cpuWrite, serialize, CpuPlan, cpuPlanOf, writeCounter, readCounter, noCounter, readReply, writeDeed, cpuPlan}
-use Rattle.machine.specs.Step.{graphicsStep, device, cpuPerform, cpuStep}
+use Rattle.machine.specs.Deeds.{rest, load, known, byteAt, plan, memoryAfter, valueOf}
+use Rattle.machine.specs.Calls.{refuse, checkOffset, fitsBoth, accessNumber, gcMapAddress, gcNumberOf, gcValue, gcNext}
+use Rattle.machine.specs.Calls.{CpuCall, cpuRead, cpuPeek, cpuWrite, CpuPlan, cpuPlanOf, writeCounter, readCounter, noCounter, readReply, writeDeed, cpuPlan}
+use Rattle.machine.specs.Step.{graphicsStep, device, cpuPerform, cpuStep, graphics, cpu}
 use Rattle.machine.proofs.Laws.{both, refuse-0}
-use Rattle.machine.proofs.Worked.{each}
+use Rattle.machine.proofs.Computed.{computed}
+use Rattle.machine.proofs.Worked.{start, told, gcTo, says, leads, each, painted}
 
--- ---- the rule
+-- ---- the rule, computed
+
+-- document 01's rule for the 128K window as K2 leaves it, at addresses that no case of the twelve tries
+pub mappings : List (List ℕ)
+unfolding leads says gcTo
+mappings =
+    -- chain set: bit 16 goes to bit 0 with bit 14 set and clear; an address up to FFFF is outside the window
+    leads 2 (0xA4001 ∷ 0xB0000 ∷ 0xBC001 ∷ 0x4000 ∷ 0xFFFF ∷ [])
+    -- the page bit is not looked at
+    ∷ says (gcTo 6 2) (graphics (gcMapAddress 0xA4001 true) ∷ graphics (gcMapAddress 0xB0000 true) ∷ [])
+    -- chain clear: the address as it stands
+    ∷ leads 0 (0xA4001 ∷ 0xB0000 ∷ [])
+    -- a read, a peek and a write up to FFFF: 2, though the offset is n or more besides
+    ∷ says (gcTo 6 2) (cpu (cpuRead 0x4000 false) ∷ cpu (cpuPeek 0x4000 false) ∷ cpu (cpuWrite 0xFFFF false 0xFF) ∷ [])
+    ∷ []
+
+pub mapping-rules : mappings
+    ≡ (0 ∷ 0x4000 ∷ 1 ∷ 0 ∷ 1 ∷ 0 ∷ 0 ∷ 0xC001 ∷ 1 ∷ 2 ∷ 0 ∷ 0 ∷ 2 ∷ 0 ∷ 0 ∷ [])
+    ∷ (0 ∷ 0x4000 ∷ 1 ∷ 0 ∷ 1 ∷ 0 ∷ [])
+    ∷ (0 ∷ 0x4001 ∷ 1 ∷ 0 ∷ 0 ∷ 0 ∷ [])
+    ∷ (2 ∷ 0 ∷ 2 ∷ 0 ∷ 2 ∷ 0 ∷ [])
+    ∷ []
+unfolding mappings
+mapping-rules = refl
+
+-- ---- the rule as document 01 wrote it
 
 -- every address that the 128K window takes is above FFFF
 pub bit-14-never : (x : ℕ) → inWindow «A0000_128k» x ≡ true → 0xFFFF < x
@@ -58,32 +85,39 @@ pub as-written : each bothRules (0x4000 ∷ 0x8000 ∷ 0xFFFF ∷ 0x10000 ∷ 0x
 unfolding bit mapped each
 as-written = refl
 
--- ---- plans by any rule that leads from an address to an offset
+-- ---- accesses by any rule that leads from an address to an offset
 
--- a plan of the processor's, its number and its offset left open
-abbrev planAt : GraphicsRegisters → Sequencer → CpuCall → ℕ → ℕ → CpuPlan
-planAt r s (cpuRead x page) n o = cpuPlanOf (plan n (load o) (readReply (readMode r) r x o)) (readCounter (readMode r))
-planAt r s (cpuPeek x page) n o = cpuPlanOf (plan n rest (byteAt 0 o)) noCounter
-planAt r s (cpuWrite x page v) n o = cpuPlanOf (plan n (writeDeed (writeMode r) r s x o v) (known (one 0))) (writeCounter (writeMode r))
-planAt r s (serialize q) n o = cpuPlanOf (plan n rest (pixelsAt (8 * q))) noCounter
+-- the calls that ask for an offset
+pub data Access : Type 0 where
+  reads peeks : Access
+  -- byte
+  writes : ℕ → Access
 
-module _ (rule : GraphicsRegisters → ℕ → Bool → ℕ) (r : GraphicsRegisters) (s : Sequencer) (h : Shape) where
-  abbrev numberBy : ℕ → Bool → ℕ
-  numberBy x page = refuse (fitsBoth r s) 6 (refuse (sound h) 1 (refuse (inWindow (memoryMap r) x) 2 (checkOffset h (rule r x page))))
+-- such a call at an address and a page
+abbrev pub accessAt : Access → ℕ → Bool → CpuCall
+accessAt reads x page = cpuRead x page
+accessAt peeks x page = cpuPeek x page
+accessAt (writes v) x page = cpuWrite x page v
 
-  abbrev planBy : CpuCall → CpuPlan
-  planBy (cpuRead x page) = planAt r s (cpuRead x page) (numberBy x page) (rule r x page)
-  planBy (cpuPeek x page) = planAt r s (cpuPeek x page) (numberBy x page) (rule r x page)
-  planBy (cpuWrite x page v) = planAt r s (cpuWrite x page v) (numberBy x page) (rule r x page)
-  planBy (serialize q) = planAt r s (serialize q) (showNumber r s h q) 0
+-- its plan, the number and the offset left open
+abbrev planAt : GraphicsRegisters → Sequencer → ℕ → Access → ℕ → ℕ → CpuPlan
+planAt r s x reads n o = cpuPlanOf (plan n (load o) (readReply (readMode r) r x o)) (readCounter (readMode r))
+planAt r s x peeks n o = cpuPlanOf (plan n rest (byteAt 0 o)) noCounter
+planAt r s x (writes v) n o = cpuPlanOf (plan n (writeDeed (writeMode r) r s x o v) (known (one 0))) (writeCounter (writeMode r))
 
--- by the machine's own rule they are the machine's
-pub by-offset : (r : GraphicsRegisters) (s : Sequencer) (h : Shape) (c : CpuCall) → planBy offset r s h c ≡ cpuPlan r s h c
+module _ (rule : GraphicsRegisters → ℕ → Bool → ℕ) (r : GraphicsRegisters) (s : Sequencer) (h : Shape) (x : ℕ) (page : Bool) where
+  abbrev numberBy : ℕ
+  numberBy = refuse (fitsBoth r s) 6 (refuse (sound h) 1 (refuse (inWindow (memoryMap r) x) 2 (checkOffset h (rule r x page))))
+
+  abbrev planBy : Access → CpuPlan
+  planBy k = planAt r s x k numberBy (rule r x page)
+
+-- by the machine's own rule it is the machine's plan
+pub by-offset : (r : GraphicsRegisters) (s : Sequencer) (h : Shape) (x : ℕ) (page : Bool) (k : Access) → planBy offset r s h x page k ≡ cpuPlan r s h (accessAt k x page)
 unfolding cpuPlan accessNumber
-by-offset r s h (cpuRead x page) = refl
-by-offset r s h (cpuPeek x page) = refl
-by-offset r s h (cpuWrite x page v) = refl
-by-offset r s h (serialize q) = refl
+by-offset r s h x page reads = refl
+by-offset r s h x page peeks = refl
+by-offset r s h x page (writes v) = refl
 
 -- ---- by the rule as written: numbers, and offsets where they are 0
 
@@ -116,13 +150,9 @@ module _ (r : GraphicsRegisters) (x : ℕ) (page : Bool) where
     unfolding accessNumber
     offset-stays e = in-window (refuse-0 _ 1 _ (refuse-0 (sound h) 0 _ (refuse-0 (fitsBoth r s) 5 _ e .1) .1) .0)
 
--- so an accepted call has the same plan: what it loads or stores, what it answers from, its counter
-pub plan-stays : (r : GraphicsRegisters) (s : Sequencer) (h : Shape) (c : CpuCall) → cpuPlan r s h c .ask .number ≡ 0 → planBy offsetAsWritten r s h c ≡ cpuPlan r s h c
-unfolding cpuPlan
-plan-stays r s h (cpuRead x page) e = rw (number-stays r x page s h, offset-stays r x page s h e)
-plan-stays r s h (cpuPeek x page) e = rw (number-stays r x page s h, offset-stays r x page s h e)
-plan-stays r s h (cpuWrite x page v) e = rw (number-stays r x page s h, offset-stays r x page s h e)
-plan-stays r s h (serialize q) e = refl
+    -- so an accepted access has the same plan: what it loads or stores, what it answers from, its counter
+    pub plan-stays : (k : Access) → accessNumber r s h x page ≡ 0 → planBy offsetAsWritten r s h x page k ≡ cpuPlan r s h (accessAt k x page)
+    plan-stays k e = rw (offset-stays e) (by-offset r s h x page k)
 
 -- ---- by the rule as written: every answer, and what is left
 
@@ -132,29 +162,30 @@ unfolding valueOf readReply
 blank-read ReadSelectedPlane r x o l m = refl
 blank-read ReadComparedPlanes r x o l m = refl
 
-module _ (g : GraphicsController) (s : Sequencer) (m : Memory) where
-  -- an access shows its offset only where its number is 0
-  behind : (c : CpuCall) (n o q : ℕ) → (n ≡ 0 → o ≡ q) → cpuPerform (planAt (g .registers) s c n o) g m ≡ cpuPerform (planAt (g .registers) s c n q) g m
+module _ (g : GraphicsController) (s : Sequencer) (m : Memory) (x : ℕ) (page : Bool) where
+  -- a refused access shows no offset
+  refused : (k : Access) (n o : ℕ) → cpuPerform (planAt (g .registers) s x k (suc n) o) g m ≡ outcome (said (suc n) (one 0)) (device g m)
   unfolding memoryAfter valueOf
-  behind c zero o q same = ap (λ (o : ℕ). cpuPerform (planAt (g .registers) s c 0 o) g m) (same refl)
-  behind (cpuRead x page) (suc n) o q same =
-      ap (λ (v : Value). outcome (said (suc n) v) (device g m)) (blank-read (readMode (g .registers)) _ x o _ m ∙ sym (blank-read (readMode (g .registers)) _ x q _ m))
-  behind (cpuPeek x page) (suc n) o q same = refl
-  behind (cpuWrite x page v) (suc n) o q same = refl
-  behind (serialize p) (suc n) o q same = refl
+  refused reads n o = ap (λ (v : Value). outcome (said (suc n) v) (device g m)) (blank-read (readMode (g .registers)) _ x o _ m)
+  refused peeks n o = refl
+  refused (writes v) n o = refl
 
-  access : (c : CpuCall) (x : ℕ) (page : Bool)
-      → cpuPerform (planAt (g .registers) s c (numberBy offsetAsWritten (g .registers) s (shape m) x page) (offsetAsWritten (g .registers) x page)) g m
-      ≡ cpuPerform (planAt (g .registers) s c (accessNumber (g .registers) s (shape m) x page) (offset (g .registers) x page)) g m
-  access c x page = rw (number-stays (g .registers) x page s (shape m)) (behind c _ _ _ (offset-stays (g .registers) x page s (shape m)))
+  refused-by : (rule : GraphicsRegisters → ℕ → Bool → ℕ) (k : Access) (n : ℕ) → numberBy rule (g .registers) s (shape m) x page ≡ suc n
+      → cpuPerform (planBy rule (g .registers) s (shape m) x page k) g m ≡ outcome (said (suc n) (one 0)) (device g m)
+  refused-by rule k n e = rw e (refused k n _)
 
-  -- every read, peek, write and show answers the same and leaves the same
-  pub accesses-stay : (c : CpuCall) → cpuPerform (planBy offsetAsWritten (g .registers) s (shape m) c) g m ≡ cpuStep g s m c
-  unfolding cpuStep cpuPlan
-  accesses-stay (cpuRead x page) = access (cpuRead x page) x page
-  accesses-stay (cpuPeek x page) = access (cpuPeek x page) x page
-  accesses-stay (cpuWrite x page v) = access (cpuWrite x page v) x page
-  accesses-stay (serialize q) = refl
+  -- every read, peek and write answers the same and leaves the same
+  pub accesses-stay : (k : Access) → cpuPerform (planBy offsetAsWritten (g .registers) s (shape m) x page k) g m ≡ cpuStep g s m (accessAt k x page)
+  unfolding cpuStep accessNumber
+  accesses-stay k = go (accessNumber (g .registers) s (shape m) x page) refl
+    where
+      go : (n : ℕ) → accessNumber (g .registers) s (shape m) x page ≡ n
+          → cpuPerform (planBy offsetAsWritten (g .registers) s (shape m) x page k) g m ≡ cpuPerform (cpuPlan (g .registers) s (shape m) (accessAt k x page)) g m
+      go zero e = ap (λ (a : CpuPlan). cpuPerform a g m) (plan-stays (g .registers) x page s (shape m) k e)
+      go (suc n) e =
+          refused-by offsetAsWritten k n (number-stays (g .registers) x page s (shape m) ∙ e)
+          ∙ sym (refused-by offset k n e)
+          ∙ ap (λ (a : CpuPlan). cpuPerform a g m) (by-offset (g .registers) s (shape m) x page k)
 
 -- two values of `map_address` that agree where they are shown
 mapped-behind : (n o q a : ℕ) (g : GraphicsController) → (n ≡ 0 → two o a ≡ two q a) → answered n (two o a) g g ≡ answered n (two q a) g g
@@ -166,3 +197,43 @@ pub map-address-stays : (g : GraphicsController) (x : ℕ) (page : Bool)
     → answered (gcNumberOf (g .registers) (gcMapAddress x page)) (two (offsetAsWritten (g .registers) x page) (bitOf (a0 x))) g g ≡ graphicsStep g (gcMapAddress x page)
 unfolding graphicsStep gcValue gcNext
 map-address-stays g x page = mapped-behind (gcNumberOf (g .registers) (gcMapAddress x page)) _ _ _ g (value-stays (g .registers) x page)
+
+-- ---- each kind of access, computed
+
+-- `painted` in the 128K window, chain set: 11 and 1 stand in plane 0. What an access there says by a rule, then those two bytes and latch 0
+saysBy : (GraphicsRegisters → ℕ → Bool → ℕ) → Access → ℕ → List ℕ
+unfolding start computed painted gcTo told
+saysBy rule k x =
+    let s = computed start (painted ++ gcTo 6 2) .final in
+    let o = cpuPerform (planBy rule (s .gc .registers) (s .seq) (shape (s .memory)) x false k) (s .gc) (s .memory) in
+    told (o .answer) ++ (take 2 (o .next .memory .p0) ++ take 1 (o .next .gc .latches))
+
+-- each kind of access at A0001, which leads to 0, at B0000, which leads to 1, and at 4000, where the two rules differ
+kindsBy : (GraphicsRegisters → ℕ → Bool → ℕ) → List ℕ
+unfolding saysBy each
+kindsBy rule = each (saysBy rule reads) addresses ++ (each (saysBy rule peeks) addresses ++ each (saysBy rule (writes 0xFF)) addresses)
+  where
+    addresses : List ℕ
+    addresses = 0xA0001 ∷ 0xB0000 ∷ 0x4000 ∷ []
+
+pub ruled : List (List ℕ)
+unfolding kindsBy offset
+ruled = kindsBy offset ∷ kindsBy offsetAsWritten ∷ kindsBy (λ r x page. 1) ∷ []
+
+-- three answers of a read, of a peek, of a write
+pub ruledSaid : List ℕ
+ruledSaid =
+    0 ∷ 0x11 ∷ 0x11 ∷ 1 ∷ 0x11 ∷ 0 ∷ 1 ∷ 0x11 ∷ 1 ∷ 1 ∷ 2 ∷ 0 ∷ 0x11 ∷ 1 ∷ 0
+    ∷ 0 ∷ 0x11 ∷ 0x11 ∷ 1 ∷ 0 ∷ 0 ∷ 1 ∷ 0x11 ∷ 1 ∷ 0 ∷ 2 ∷ 0 ∷ 0x11 ∷ 1 ∷ 0
+    ∷ 0 ∷ 0 ∷ 0xFF ∷ 1 ∷ 0 ∷ 0 ∷ 0 ∷ 0x11 ∷ 0xFF ∷ 0 ∷ 2 ∷ 0 ∷ 0x11 ∷ 1 ∷ 0 ∷ []
+
+-- by the machine's rule and by the rule as written the same; a rule that leads everywhere to 1 is told by each kind of access, but not at 4000
+pub rules-told : ruled
+    ≡ ruledSaid
+    ∷ ruledSaid
+    ∷ (0 ∷ 1 ∷ 0x11 ∷ 1 ∷ 1 ∷ 0 ∷ 1 ∷ 0x11 ∷ 1 ∷ 1 ∷ 2 ∷ 0 ∷ 0x11 ∷ 1 ∷ 0
+    ∷ 0 ∷ 1 ∷ 0x11 ∷ 1 ∷ 0 ∷ 0 ∷ 1 ∷ 0x11 ∷ 1 ∷ 0 ∷ 2 ∷ 0 ∷ 0x11 ∷ 1 ∷ 0
+    ∷ 0 ∷ 0 ∷ 0x11 ∷ 0xFF ∷ 0 ∷ 0 ∷ 0 ∷ 0x11 ∷ 0xFF ∷ 0 ∷ 2 ∷ 0 ∷ 0x11 ∷ 1 ∷ 0 ∷ [])
+    ∷ []
+unfolding ruled ruledSaid
+rules-told = refl
