@@ -316,6 +316,35 @@ def two_prices(piece):
             piece.fails(f"Example.antt does not say these pixels of {name}")
 
 
+# case 9's three values of Color Don't Care; its Color Compare is 3
+CARES = 0xF, 3, 0
+
+
+def compare_table(piece):
+    """A compare read by whole bytes: each plane's row by the rule, the bytes that the example tape reads (the last row, then each plane by itself), the comment beside the code."""
+    rows = [[int(cell, 16) for cell in line.split()] for line in piece.lines[1:5]]
+    for plane, row in enumerate(rows):
+        spread = 0xFF * (3 >> plane & 1)
+        agrees = 0xFF ^ row[1] ^ spread
+        if row != [plane, row[1], spread, agrees, *(agrees if care >> plane & 1 else 0xFF for care in CARES)]:
+            piece.fails(f"the rule gives other bytes in the row of plane {plane}")
+    read = [int(line.split()[3]) for line in open("tape/examples/compare-read.out") if line.split()[1] == "5"]
+    if read != [int(cell, 16) for cell in piece.lines[5].split()[-3:]] + [row[4] for row in rows]:
+        piece.fails("tape/examples/compare-read.out has other bytes than the last row and the column of Don't Care F")
+    if "\n".join("//     " + line for line in piece.lines) not in open("crates/graphics_paths/src/compare.rt").read():
+        piece.fails("the comment of crates/graphics_paths/src/compare.rt has not these lines")
+
+
+def found_pixels(piece):
+    """Under each Don't Care the pixels that have colour 3 as far as it looks, and the byte that they are."""
+    pixels = [int(pixel) for pixel in piece.lines[0].split()[1:]]
+    for line, care in zip(piece.lines[1:], CARES):
+        found = [pixel & care == 3 & care for pixel in pixels]
+        byte = sum(is_found << 7 - i for i, is_found in enumerate(found))
+        if line.split() != ["Don't", "Care", f"{care:X}", *(".#"[is_found] for is_found in found), f"{byte:02X}"]:
+            piece.fails(f"Don't Care {care:X} finds other pixels")
+
+
 # The pieces, in their order: page, how the first line starts, what is done with it.
 PIECES = [
     ("README.md", "./run-tape", "shell", "commands"),
@@ -328,6 +357,9 @@ PIECES = [
     ("README.md", "tape/text-to-tape", "shell", "commands"),
     ("README.md", "5 5 5 5", case_11, "held to case 11, run as a tape"),
     ("README.md", "cheap", two_prices, "held to `cheap-says` and `dear-says` of Example.antt"),
+    ("README.md", "plane   latch", compare_table, "held to the rule, to tape/examples/compare-read.out and to the comment of crates/graphics_paths/src/compare.rt"),
+    ("README.md", "pixels", found_pixels, "held to the colours drawn"),
+    ("README.md", "./run-tape", "shell", "commands"),
     ("README.md", "let r = graphics_controller", rattle, "held to the function's name, parameters and answer in crates/graphics_controller/src and crates/machine_types/src"),
     ("README.md", "rt staticlib", "shell", "commands"),
     ("README.md", "gc = iddesmar_gc_new", c_piece, "compiled in a frame, linked and run; its pixels are those of its comment"),

@@ -107,6 +107,16 @@ def reads():
     read(0xA0001)
 
 
+def one_plane():
+    """It comes last, so that older lines keep their numbers, and at offset 2, which nothing after it looks at."""
+    case("case 9 a plane at a time: planes F0, CC, AA, 00 at offset 2, compare 3")
+    fill([2], [0xF0, 0xCC, 0xAA, 0x00], 0)
+    for plane, byte in enumerate(("F0", "CC", "55", "FF")):
+        case(f"Don't Care {1 << plane}: plane {plane} alone is compared, and agrees at {byte}")
+        of_mode(8, (2, 3), (7, 1 << plane))
+        read(0xA0002)
+
+
 def masks():
     lend_all(8)
     case("Mode, Memory Mode, Map Mask: a write of 5A, Bit Mask FF, over a picture that does not match")
@@ -252,4 +262,4 @@ def bit_14():
     call(10, 0)
 
 
-PARTS = ports, addresses, modes, reads, masks, counters, outside, shows, refusals, lengths, orders, bit_14
+PARTS = ports, addresses, modes, reads, masks, counters, outside, shows, refusals, lengths, orders, bit_14, one_plane

@@ -1,4 +1,19 @@
-// The compare read: the bits at which the latches have the colour asked for, plane by plane.
+// The compare read: the bits at which the latches have the colour asked for, worked out from whole latch bytes, plane by plane.
+//
+// Two registers say what is asked for, a bit for each plane. Bit p of Color Compare (register 2) is the bit that plane p is to have. Bit p of Color Don't Care (register 7) says whether plane p is
+// looked at: 1 means that the plane IS compared, 0 that it is not, which is the opposite of what the name says. Each plane gives a byte, which has a 1 at each bit where the plane agrees:
+//
+//     compared        the latch exclusive-or its Color Compare bit, spread over eight bits, has a 1 where they differ; turned over, where they agree
+//     not compared    FF: it agrees at every bit, and so stops none
+//
+// A bit of the answer is 1 where every plane agrees: the four bytes are joined by `and`. Document 01's case 9 by hand: latches F0, CC, AA, 00, Color Compare 3, three values of Color Don't Care:
+//
+//     plane   latch   Color Compare bit, spread   agrees where   Don't Care F   Don't Care 3   Don't Care 0
+//     0       F0      FF                          F0             F0             F0             FF
+//     1       CC      FF                          CC             CC             CC             FF
+//     2       AA      00                          55             55             FF             FF
+//     3       00      00                          FF             FF             FF             FF
+//     all, joined by `and`                                       40             C0             FF
 ghost use mathlib.Core.Path.{_≡_};
 ghost use mathlib.Core.Bool.{true};
 ghost use Prim.Native.Nat.{_≤_};
@@ -7,7 +22,7 @@ ghost use Rattle.bits.specs.Bit.{bit, byteOf, isOne, bitOf, pick};
 ghost use Rattle.machine.specs.Deeds.{compared};
 use bits::inner::spread;
 
-// The bits at which a plane agrees: all where its Don't Care bit is 0, else those at which its latch equals its Color Compare bit.
+// A plane's row of the table, under one Don't Care: all bits where its Don't Care bit is 0, else those at which its latch equals its Color Compare bit.
 fn plane_comp(color_dont_care: u8, color_compare: u8, plane: u8, latch: u8) -> u8
     requires { ⌜ plane ≤ 3 ⌝ }
     ensures { λ r. ⌜ r ≡ byteOf (λ i. bitOf (pick (isOne (bit plane «color_dont_care»)) (eqb (bit i latch) (bit plane «color_compare»)) true)) ⌝ }
@@ -18,6 +33,7 @@ fn plane_comp(color_dont_care: u8, color_compare: u8, plane: u8, latch: u8) -> u
     0xFF
 }
 
+// The table's last row: what a compare read answers.
 pub fn pixel_op_compare(color_dont_care: u8, color_compare: u8, latches: [u8; 4]) -> u8
     ensures { λ r. ⌜ r ≡ compared «color_dont_care» «color_compare» latches ⌝ }
 {
