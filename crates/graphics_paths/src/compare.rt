@@ -1,7 +1,7 @@
 // The compare read: the bits at which the latches have the colour asked for, worked out from whole latch bytes, plane by plane.
 //
-// Two registers say what is asked for, a bit for each plane. Bit p of Color Compare (register 2) is the bit that plane p is to have. Bit p of Color Don't Care (register 7) says whether plane p is
-// looked at: 1 means that the plane IS compared, 0 that it is not, which is the opposite of what the name says. Each plane gives a byte, which has a 1 at each bit where the plane agrees:
+// Two registers of the controller say what is asked for, a bit for each plane. Bit p of Color Compare (register 2) is the bit that plane p is to have. Bit p of Color Don't Care (register 7) says
+// whether plane p is looked at: 1 means that the plane IS compared, 0 that it is not, which is the opposite of what the name says. Each plane gives a byte, with a 1 at each bit where it agrees:
 //
 //     compared        the latch exclusive-or its Color Compare bit, spread over eight bits, has a 1 where they differ; turned over, where they agree
 //     not compared    FF: it agrees at every bit, and so stops none
@@ -22,7 +22,7 @@ ghost use Rattle.bits.specs.Bit.{bit, byteOf, isOne, bitOf, pick};
 ghost use Rattle.machine.specs.Deeds.{compared};
 use bits::inner::spread;
 
-// A plane's row of the table, under one Don't Care: all bits where its Don't Care bit is 0, else those at which its latch equals its Color Compare bit.
+// What a plane gives, one byte of the table: all bits where its Don't Care bit is 0, else those at which its latch equals its Color Compare bit.
 fn plane_comp(color_dont_care: u8, color_compare: u8, plane: u8, latch: u8) -> u8
     requires { ⌜ plane ≤ 3 ⌝ }
     ensures { λ r. ⌜ r ≡ byteOf (λ i. bitOf (pick (isOne (bit plane «color_dont_care»)) (eqb (bit i latch) (bit plane «color_compare»)) true)) ⌝ }
@@ -33,7 +33,7 @@ fn plane_comp(color_dont_care: u8, color_compare: u8, plane: u8, latch: u8) -> u
     0xFF
 }
 
-// The table's last row: what a compare read answers.
+// What a compare read answers, the table's last row: the bits at which all four planes agree.
 pub fn pixel_op_compare(color_dont_care: u8, color_compare: u8, latches: [u8; 4]) -> u8
     ensures { λ r. ⌜ r ≡ compared «color_dont_care» «color_compare» latches ⌝ }
 {
