@@ -115,6 +115,9 @@ def one_plane():
         case(f"Don't Care {1 << plane}: plane {plane} alone is compared, and agrees at {byte}")
         of_mode(8, (2, 3), (7, 1 << plane))
         read(0xA0002)
+    case("compare B, Don't Care 8: plane 3 is to have 1, and agrees nowhere. Under compare 3 it agrees everywhere, as a plane does that is not looked at")
+    of_mode(8, (2, 0xB), (7, 8))
+    read(0xA0002)
 
 
 def masks():
