@@ -15,11 +15,12 @@ pub trait Machine {
     fn sum(&self) -> u64;
 }
 
-pub const ROWS: [&str; 9] = [
+pub const ROWS: [&str; 10] = [
     "loop",
     "mode 0 write",
     "mode 1 write",
     "mode 2 write",
+    "mode 3 write",
     "chain-four write",
     "selected-plane read",
     "compare read",
@@ -34,13 +35,13 @@ pub fn run<M: Machine>(machine: &mut M, row: usize, turns: usize) -> u64 {
     for turn in 0..turns {
         let offset = black_box(turn.wrapping_mul(7) & 0xFFFF);
         sum += match row {
-            1..=4 => {
+            1..=5 => {
                 machine.write(0xA0000 + offset, turn as u8);
                 0
             }
-            5 | 6 => u64::from(machine.read(0xA0000 + offset)),
-            7 => u64::from(machine.show(offset)),
-            8 => mixed(machine, turn, offset),
+            6 | 7 => u64::from(machine.read(0xA0000 + offset)),
+            8 => u64::from(machine.show(offset)),
+            9 => mixed(machine, turn, offset),
             _ => 0,
         };
     }
@@ -56,11 +57,12 @@ fn mixed<M: Machine>(machine: &mut M, turn: usize, offset: usize) -> u64 {
     u64::from(machine.read(0xA0000 + offset)) + u64::from(machine.show(offset))
 }
 
-/// Sequential, 64K window, Map Mask F, function `Xor`, rotate 3, Bit Mask 3C; something in the latches and in memory.
+/// Sequential, 64K window, Map Mask F, function `Xor`, rotate 3, Bit Mask 3C, Set/Reset 5, which Enable 0 leaves to mode 3; something in the latches and in memory.
 fn set<M: Machine>(machine: &mut M, row: usize) {
     machine.set_seq(4, 4);
     machine.set_seq(2, 15);
     machine.set_gc(6, 5);
+    machine.set_gc(0, 5);
     machine.set_gc(3, 0x1B);
     machine.set_gc(8, 0x3C);
     machine.set_gc(2, 5);
@@ -68,6 +70,6 @@ fn set<M: Machine>(machine: &mut M, row: usize) {
     machine.set_gc(4, 2);
     machine.write(0xA0000, 0xA5);
     machine.read(0xA0000);
-    machine.set_gc(5, [0, 0, 1, 2, 0, 0, 8, 0, 0][row]);
-    machine.set_seq(4, if row == 4 { 12 } else { 4 });
+    machine.set_gc(5, [0, 0, 1, 2, 3, 0, 0, 8, 0, 0][row]);
+    machine.set_seq(4, if row == 5 { 12 } else { 4 });
 }

@@ -345,6 +345,14 @@ def found_pixels(piece):
             piece.fails(f"Don't Care {care:X} finds other pixels")
 
 
+def shaded_bars(piece):
+    """Each row's pixels are what the example tape shows, row by row."""
+    drawn = [re.search(r"[0-9A-F](?: [0-9A-F]){7}", line)[0].replace(" ", "") for line in piece.lines]
+    shown = [line.split()[3] for line in open("tape/examples/shaded-bar.out") if line.split()[1] == "8"]
+    if drawn != shown:
+        piece.fails(f"tape/examples/shaded-bar.out has {' '.join(shown)}")
+
+
 # The pieces, in their order: page, how the first line starts, what is done with it.
 PIECES = [
     ("README.md", "./run-tape", "shell", "commands"),
@@ -359,6 +367,8 @@ PIECES = [
     ("README.md", "cheap", two_prices, "held to `cheap-says` and `dear-says` of Example.antt"),
     ("README.md", "plane   latch", compare_table, "held to the rule, to tape/examples/compare-read.out and to the comment of crates/graphics_paths/src/compare.rt"),
     ("README.md", "pixels", found_pixels, "held to the colours drawn"),
+    ("README.md", "./run-tape", "shell", "commands"),
+    ("README.md", "the label", shaded_bars, "held to the shows of tape/examples/shaded-bar.out"),
     ("README.md", "./run-tape", "shell", "commands"),
     ("README.md", "let r = graphics_controller", rattle, "held to the function's name, parameters and answer in crates/graphics_controller/src and crates/machine_types/src"),
     ("README.md", "rt staticlib", "shell", "commands"),

@@ -208,7 +208,7 @@ class Model:
         visited = [a0, 2 + a0] if bit(self.gc[MODE], 4) else range(4)
         at = offset - offset % 4 if self.chain_four() else offset
         for plane in visited:
-            if mode != 3 and self.masked(plane, offset, a0):
+            if self.masked(plane, offset, a0):
                 self.store(plane, at, self.written(mode, plane, byte % 256))
 
     def written(self, mode, plane, byte):
@@ -216,14 +216,13 @@ class Model:
         latch = self.gc[LATCHES + plane]
         if mode == 1:
             return latch
-        data = 255 * bit(byte, plane) if mode == 2 else self.mode_0_data(plane, byte)
+        turned = sum(bit(byte, (i + self.gc[ROTATE] % 8) % 8) << i for i in range(8))
+        by_set_reset = mode == 3 or mode == 0 and bit(self.gc[ENABLE], plane)
+        data = 255 * bit(self.gc[SET_RESET], plane) if by_set_reset else 255 * bit(byte, plane) if mode == 2 else turned
         joined = [data, data & latch, data | latch, data ^ latch][self.gc[ROTATE] >> 3 & 3]
-        return sum(bit(joined if bit(self.gc[BIT_MASK], i) else latch, i) << i for i in range(8))
-
-    def mode_0_data(self, plane, byte):
-        if bit(self.gc[ENABLE], plane):
-            return 255 * bit(self.gc[SET_RESET], plane)
-        return sum(bit(byte, (i + self.gc[ROTATE] % 8) % 8) << i for i in range(8))
+        # in mode 3 the byte itself is a mask, beside Bit Mask
+        masks = [self.gc[BIT_MASK], turned if mode == 3 else 255]
+        return sum(bit(joined if all(bit(mask, i) for mask in masks) else latch, i) << i for i in range(8))
 
     def serialize(self, offset):
         self.judge_gc()

@@ -265,4 +265,78 @@ def bit_14():
     call(10, 0)
 
 
-PARTS = ports, addresses, modes, reads, masks, counters, outside, shows, refusals, lengths, orders, bit_14, one_plane
+# planes 0 to 3 of K1's worked example
+BARS = [0x11, 0x22, 0x44, 0x88]
+
+
+def shade(mode, byte, at, stored, *pairs):
+    """A bar in write mode 3, over BARS and pixels that do not match them, which are in the latches."""
+    fill(sorted({at, stored}), BARS, 0x0E)
+    of_mode(mode, *pairs)
+    call(38, 0xA0000 + at, 0)
+    write(0xA0000 + at, byte, 8, stored)
+
+
+def mode_3():
+    """It comes last, so that older lines keep their numbers. Nothing after it looks at offsets from 2 on."""
+    lend_all(8)
+    masked()
+    for enable in 0, 15:
+        for function, planes in enumerate(("1D 22 4C 80", "11 22 44 80", "1D 22 4C 88", "1D 22 48 88")):
+            case(f"write mode 3, function {function}, Enable {enable}, Set/Reset 5, rotate 4, Bit Mask 3C, byte F0 over 11 22 44 88: {planes}")
+            shade(3, 0xF0, 2, 2, (0, 5), (1, enable), (3, function << 3 | 4), (8, 0x3C))
+    case("rotate 3, Bit Mask FF, byte 1D over the same: turned right it is A3, and the planes become B3 00 E7 08")
+    shade(3, 0x1D, 2, 2, (0, 5), (3, 3), (8, 0xFF))
+    every_function()
+    same_bytes()
+    shaded_masks()
+    refused_bars()
+
+
+def every_function():
+    case("every function with every rotation, Set/Reset 5, then A: latches 5A 3C C3 A5, Bit Mask 7E, byte 1D")
+    fill([2], [0x5A, 0x3C, 0xC3, 0xA5], 0x0E)
+    of_mode(3, (8, 0x7E))
+    call(38, 0xA0002, 0)
+    for set_reset in 5, 10:
+        data((0, set_reset))
+        for data_rotate in range(32):
+            data((1, data_rotate % 16), (3, data_rotate))
+            calls((40, 0xA0003, 0, 0x1D), *((1, plane, 3) for plane in range(4)), (DIGEST,))
+
+
+def same_bytes():
+    case("byte 00 stores the latches: over other bytes, then over the same ones, and the pixels are remade there too")
+    fill([3], [1, 2, 4, 8], 0x0E)
+    shade(3, 0, 2, 2, (0, 15), (8, 0xFF))
+    write(0xA0003, 0, 8, 3)
+    case("Map Mask 0: nothing is stored, no pixel remade, and the write is counted")
+    masked(0)
+    shade(3, 0xFF, 2, 2, (0, 15), (8, 0xFF))
+
+
+def shaded_masks():
+    for mode in 0x03, 0x13:
+        for memory_mode, map_mask in (0, 15), (4, 15), (8, 15), (12, 15), (4, 6), (0, 6):
+            for at in 5, 6:
+                case(f"Mode {mode}, Memory Mode {memory_mode}, Map Mask {map_mask}, offset {at}: Set/Reset 6, Xor, rotate 2, Bit Mask 7E, byte C9")
+                masked(map_mask, memory_mode)
+                shade(mode, 0xC9, at, at - at % 4 if memory_mode & 8 else at, (0, 6), (3, 0x1A), (8, 0x7E))
+
+
+def refused_bars():
+    case("write mode 3 is refused as the others are: 2, 3 (with a mask of 00 and with Map Mask 0 too), 6, 1. Nothing moves")
+    masked()
+    of_mode(3, (0, 15), (8, 0xFF))
+    calls((40, 0x9FFFF, 0, 0xFF), (40, 0xB0000, 0, 0xFF), (40, 0xA0008, 0, 0xFF), (40, 0xA0008, 0, 0))
+    masked(0)
+    calls((40, 0xA0008, 0, 0xFF), (DIGEST,))
+    masked()
+    calls((GC_FIELD, 2, 16), (40, 0xA0002, 0, 0xFF), (GC_FIELD, 2, 15), (DIGEST,))
+    lend(8, 8, 8, 7, 64)
+    call(40, 0xA0002, 0, 0xFF)
+    lend_all(8)
+    call(DIGEST)
+
+
+PARTS = ports, addresses, modes, reads, masks, counters, outside, shows, refusals, lengths, orders, bit_14, one_plane, mode_3

@@ -1,6 +1,7 @@
 //! The Rust's graphics controller and sequencer, called by number.
 
 use crate::call::*;
+use crate::mode_3;
 use marty_core::devices::vga::graphics_controller::GraphicsController;
 use marty_core::devices::vga::sequencer::Sequencer;
 use marty_core::devices::vga::PageSelect;
@@ -125,9 +126,17 @@ impl Device {
             GC_MAP_ADDRESS => Value::Two(offset, a0),
             GC_CPU_READ_U8 => byte(self.gc.cpu_read_u8(&self.seq, address, page_of(page))),
             GC_CPU_PEEK_U8 => byte(self.gc.cpu_peek_u8(&self.seq, address, page_of(page))),
-            _ => done(self.gc.cpu_write_u8(&mut self.seq, address, page_of(page), byte_given as u8)),
+            _ => done(self.write(address, page, mapped, byte_given as u8)),
         };
         (number, value)
+    }
+
+    /// The Rust's own write, and where it is accepted what the Rust has not.
+    fn write(&mut self, address: usize, page: usize, mapped: Option<(usize, usize)>, byte: u8) {
+        self.gc.cpu_write_u8(&mut self.seq, address, page_of(page), byte);
+        if let Some((offset, a0)) = mapped {
+            mode_3::store(&self.gc, &mut self.seq, offset, a0, byte);
+        }
     }
 }
 

@@ -6,6 +6,7 @@ mod device;
 mod digest;
 mod generate;
 mod list;
+mod mode_3;
 mod progress;
 mod random;
 mod refusals;

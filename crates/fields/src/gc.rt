@@ -39,7 +39,7 @@ pub fn write_mode(registers: GraphicsRegisters) -> WriteMode
         0 => WriteMode::Mode0,
         1 => WriteMode::Mode1,
         2 => WriteMode::Mode2,
-        _ => WriteMode::Invalid,
+        _ => WriteMode::Mode3,
     }
 }
 

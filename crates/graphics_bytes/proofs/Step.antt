@@ -1,14 +1,14 @@
 -- The logic step on whole bytes is the machine's rule bit by bit.
 use Prim.Native.Nat.{ℕ, _-_, _<_, _^_, min, max}
-use mathlib.Core.Path.{_≡_, ap, _∙_}
+use mathlib.Core.Path.{_≡_, ap₂, _∙_}
 use lib.Bits.{bitAnd, bitOr, bitXor, differ}
-use Rattle.bits.specs.Bit.{bit, byteOf, isOne, pick}
+use Rattle.bits.specs.Bit.{bit, byteOf}
 use Rattle.bits.proofs.Laws.{bit-lt, of-ext, is-of}
 use Rattle.bits.proofs.Bitwise.{bitwise, bytes}
 use Rattle.bits.proofs.Decide.{same3}
 use Rattle.machine_types.specs.declared.gc.LogicFunction.{LogicFunction}
 use Rattle.machine_types.specs.declared.gc.LogicFunction.the-variants.{Unmodified, And, Or, Xor}
-use Rattle.machine.specs.DataPath.{combined}
+use Rattle.machine.specs.DataPath.{combined, masked}
 
 -- the code's expression for each function
 abbrev pub whole : LogicFunction → ℕ → ℕ → ℕ → ℕ
@@ -24,17 +24,13 @@ single And m d l = min (max d (1 - m)) l
 single Or m d l = max (min d m) l
 single Xor m d l = differ (min d m) l
 
--- a mask bit 1 takes the function of data and latch, a 0 the latch
-abbrev pub stepped : LogicFunction → ℕ → ℕ → ℕ → ℕ
-stepped f m d l = pick (isOne m) (combined f d l) l
-
 -- what the code does to bits is the rule: eight cases a function
-right : (f : LogicFunction) (m d l : ℕ) → m < 2 → d < 2 → l < 2 → single f m d l ≡ stepped f m d l
-unfolding combined
-right Unmodified = same3 (single Unmodified) (stepped Unmodified) tt
-right And = same3 (single And) (stepped And) tt
-right Or = same3 (single Or) (stepped Or) tt
-right Xor = same3 (single Xor) (stepped Xor) tt
+right : (f : LogicFunction) (m d l : ℕ) → m < 2 → d < 2 → l < 2 → single f m d l ≡ masked f m d l
+unfolding combined masked
+right Unmodified = same3 (single Unmodified) (masked Unmodified) tt
+right And = same3 (single And) (masked And) tt
+right Or = same3 (single Or) (masked Or) tt
+right Xor = same3 (single Xor) (masked Xor) tt
 
 module _ (m d l : ℕ) (hm : m < 256) (hd : d < 256) (hl : l < 256) where
   apart : (f : LogicFunction) (i : ℕ) → i < 8 → bit i (whole f m d l) ≡ single f (bit i m) (bit i d) (bit i l)
@@ -49,10 +45,10 @@ module _ (m d l : ℕ) (hm : m < 256) (hd : d < 256) (hl : l < 256) where
   small Or = search bytes
   small Xor = search bytes
 
-  pub whole-is : (f : LogicFunction) → whole f m d l ≡ byteOf (λ i. stepped f (bit i m) (bit i d) (bit i l))
+  pub whole-is : (f : LogicFunction) → whole f m d l ≡ byteOf (λ i. masked f (bit i m) (bit i d) (bit i l))
   whole-is f = is-of 8 (small f) (λ i h. apart f i h ∙ right f (bit i m) (bit i d) (bit i l) (bit-lt i m) (bit-lt i d) (bit-lt i l))
 
--- the logic step of a data byte that is told bit by bit
-pub step-of : (f : LogicFunction) (m d l : ℕ) (e : ℕ → ℕ) → ((i : ℕ) → i < 8 → bit i d ≡ e i)
-    → byteOf (λ i. stepped f (bit i m) (bit i d) (bit i l)) ≡ byteOf (λ i. stepped f (bit i m) (e i) (bit i l))
-step-of f m d l e h = of-ext 8 (λ i k. ap (λ (b : ℕ). stepped f (bit i m) b (bit i l)) (h i k))
+-- the logic step of a mask and a data byte that are told bit by bit
+pub step-of : (f : LogicFunction) (m d l : ℕ) (c e : ℕ → ℕ) → ((i : ℕ) → i < 8 → bit i m ≡ c i) → ((i : ℕ) → i < 8 → bit i d ≡ e i)
+    → byteOf (λ i. masked f (bit i m) (bit i d) (bit i l)) ≡ byteOf (λ i. masked f (c i) (e i) (bit i l))
+step-of f m d l c e g h = of-ext 8 (λ i k. ap₂ (λ (a b : ℕ). masked f a b (bit i l)) (g i k) (h i k))

@@ -2,9 +2,9 @@
 mod logic;
 
 ghost use mathlib.Core.Path.{_≡_};
-ghost use Prim.Native.Nat.{_<_, _≤_};
+ghost use Prim.Native.Nat.{_<_, _≤_, min};
 ghost use Rattle.bits.specs.Bit.{bit, byteOf, isOne, pick};
-ghost use Rattle.machine.specs.Graphics.{rotateCount};
+ghost use Rattle.machine.specs.Graphics.{rotateCount, logicFunction};
 ghost use Rattle.machine.specs.DataPath.{rotated, masked, writtenBit};
 ghost use Rattle.graphics_bytes.specs.PlaneBytes.{planeBytes, four};
 use bits::inner::spread;
@@ -34,7 +34,7 @@ fn set_reset(registers: GraphicsRegisters, data: u8, plane: u8) -> u8
 // Mode 0: the rotated byte, or the plane's Set/Reset bit, and the logic step.
 fn mode_0(registers: GraphicsRegisters, turned: u8, plane: u8, latch: u8) -> u8
     requires { ⌜ plane ≤ 3 ⌝ }
-    ensures { λ r. ⌜ r ≡ byteOf (λ i. masked registers i (pick (isOne (bit plane (registers .«enable_set_reset»))) (bit plane (registers .«set_reset»)) (bit i turned)) (bit i latch)) ⌝ }
+    ensures { λ r. ⌜ r ≡ byteOf (λ i. masked (logicFunction registers) (bit i (registers .bitmask)) (pick (isOne (bit plane (registers .«enable_set_reset»))) (bit plane (registers .«set_reset»)) (bit i turned)) (bit i latch)) ⌝ }
 {
     let data = set_reset(registers, turned, plane);
     logic_step(
@@ -48,7 +48,7 @@ fn mode_0(registers: GraphicsRegisters, turned: u8, plane: u8, latch: u8) -> u8
 // Mode 2: the plane's bit of the byte, spread, and the logic step.
 fn mode_2(registers: GraphicsRegisters, byte: u8, plane: u8, latch: u8) -> u8
     requires { ⌜ plane ≤ 3 ⌝ }
-    ensures { λ r. ⌜ r ≡ byteOf (λ i. masked registers i (bit plane byte) (bit i latch)) ⌝ }
+    ensures { λ r. ⌜ r ≡ byteOf (λ i. masked (logicFunction registers) (bit i (registers .bitmask)) (bit plane byte) (bit i latch)) ⌝ }
 {
     let data = spread(byte, plane);
     logic_step(
@@ -59,7 +59,17 @@ fn mode_2(registers: GraphicsRegisters, byte: u8, plane: u8, latch: u8) -> u8
     )
 }
 
-// The byte that a plane is to have, if it is stored: mode 1 has the latch as it is, and mode 3 stores none.
+// Mode 3: the plane's Set/Reset bit, spread, whatever Enable holds, and the logic step under the rotated byte and Bit Mask.
+fn mode_3(registers: GraphicsRegisters, turned: u8, plane: u8, latch: u8) -> u8
+    requires { ⌜ plane ≤ 3 ⌝ }
+    ensures { λ r. ⌜ r ≡ byteOf (λ i. masked (logicFunction registers) (min (bit i turned) (bit i (registers .bitmask))) (bit plane (registers .«set_reset»)) (bit i latch)) ⌝ }
+{
+    let data = spread(registers.set_reset, plane);
+    let mask = turned & registers.bitmask;
+    logic_step(fields::gc::function(registers), mask, data, latch)
+}
+
+// The byte that a plane is to have, if it is stored: mode 1 has the latch as it is.
 fn plane_byte(
     mode: WriteMode,
     registers: GraphicsRegisters,
@@ -75,7 +85,7 @@ fn plane_byte(
         WriteMode::Mode0 => mode_0(registers, turned, plane, latch),
         WriteMode::Mode1 => latch,
         WriteMode::Mode2 => mode_2(registers, byte, plane, latch),
-        WriteMode::Invalid => latch,
+        WriteMode::Mode3 => mode_3(registers, turned, plane, latch),
     }
 }
 

@@ -13,7 +13,6 @@ use Rattle.machine_types.specs.declared.answer.MappedAnswer.{MappedAnswer}
 use Rattle.machine_types.specs.declared.answer.MappedAnswer.the-variants.{Done as MappedDone, Refused as MappedRefused}
 use Rattle.machine_types.specs.declared.place.PlaneOffset.{PlaneOffset}
 use Rattle.machine_types.specs.declared.gc.WriteMode.{WriteMode}
-use Rattle.machine_types.specs.declared.gc.WriteMode.the-variants.{Mode0, Mode1, Mode2, Invalid}
 use Rattle.machine_types.specs.declared.gc.GraphicsRegisters.{GraphicsRegisters}
 use Rattle.machine_types.specs.declared.gc.GraphicsController.{GraphicsController}
 use Rattle.machine_types.specs.declared.gc.MemoryMap.{MemoryMap}
@@ -189,10 +188,7 @@ module _ (g : GraphicsController) (s : Sequencer) (m : Memory) (x : ℕ) (page :
   -- a write moves no latch
   write-latches : (w : WriteMode) (o v : ℕ) → g .latches ≡ latchesAfter (writeDeed w (g .registers) s x o v) (g .latches) m
   unfolding writeDeed latchesAfter
-  write-latches Mode0 o v = refl
-  write-latches Mode1 o v = refl
-  write-latches Mode2 o v = refl
-  write-latches Invalid o v = refl
+  write-latches w o v = refl
 
   -- one counter raised, and the mode's deed done
   pub write-done : (v o : ℕ) (m′ : Memory) (a : Said) (g′ : GraphicsController) → 0 ≡ number → o ≡ at

@@ -38,7 +38,7 @@ pub fn counted_write(mode: WriteMode, stats: GraphicsControllerStats) -> Graphic
             next.mode_2_writes = std::num::wrapping_add_u32(stats.mode_2_writes, 1);
             next
         }
-        WriteMode::Invalid => {
+        WriteMode::Mode3 => {
             next.mode_3_writes = std::num::wrapping_add_u32(stats.mode_3_writes, 1);
             next
         }

@@ -14,7 +14,6 @@ use Rattle.bits.proofs.Laws.{test-lt, bit-of, of-lt, is-of}
 use Rattle.bits.proofs.Bitwise.{bit-and}
 use Rattle.machine_types.specs.declared.gc.GraphicsRegisters.{GraphicsRegisters}
 use Rattle.machine_types.specs.declared.gc.WriteMode.{WriteMode}
-use Rattle.machine_types.specs.declared.gc.WriteMode.the-variants.{Mode0, Mode1, Mode2, Invalid}
 use Rattle.machine_types.specs.declared.seq.Sequencer.{Sequencer}
 use Rattle.machine.specs.Memory.{Memory, plane}
 use Rattle.machine.specs.Sequencer.{storedAt}
@@ -115,39 +114,21 @@ module _ (w : WriteMode) (r : GraphicsRegisters) (s : Sequencer) (x o v : ℕ) (
   -- nothing moves where no plane is stored
   pub write-none : (q : ℕ) → q ≡ storesTo r s x o → q ≡ 0 → m ≡ memoryAfter (writeDeed w r s x o v) l m
   unfolding memoryAfter writeDeed stored stores storesTo
-  write-none q e z = go w (none-passed (stores r s x o) (sym e ∙ z))
-    where
-      go : (w : WriteMode) → any (stores r s x o) ≡ false → m ≡ memoryAfter (writeDeed w r s x o v) l m
-      go Mode0 n = rw n
-      go Mode1 n = rw n
-      go Mode2 n = rw n
-      go Invalid n = refl
+  write-none q e z = rw (none-passed (stores r s x o) (sym e ∙ z))
 
-  -- mode 3 only counts
-  pub write-counts : w ≡ Invalid → m ≡ memoryAfter (writeDeed w r s x o v) l m
-  unfolding memoryAfter writeDeed
-  write-counts e = rw e
-
-  -- in modes 0, 1 and 2 the bytes are laid, and the pixels remade once
-  stored-once : (w ≡ Invalid → ⊥) → any (stores r s x o) ≡ true
-      → remade (storedAt s o) (laid (storedAt s o) (stores r s x o) (planeBytes w r v l) m) ≡ memoryAfter (writeDeed w r s x o v) l m
+  -- else the bytes are laid, and the pixels remade once
+  stored-once : any (stores r s x o) ≡ true → remade (storedAt s o) (laid (storedAt s o) (stores r s x o) (planeBytes w r v l) m) ≡ memoryAfter (writeDeed w r s x o v) l m
   unfolding memoryAfter writeDeed stored storedByte stores planeBytes
-  stored-once n e = go w n
-    where
-      go : (w : WriteMode) → (w ≡ Invalid → ⊥) → remade (storedAt s o) (laid (storedAt s o) (stores r s x o) (planeBytes w r v l) m) ≡ memoryAfter (writeDeed w r s x o v) l m
-      go Mode0 n = rw e
-      go Mode1 n = rw e
-      go Mode2 n = rw e
-      go Invalid n = absurd (n refl)
+  stored-once e = rw e
 
   -- as the code stores them: by the bits of a mask, from an array of four
-  pub write-some : (q place : ℕ) (b : List ℕ) → (w ≡ Invalid → ⊥) → q ≡ storesTo r s x o → (q ≡ 0 → ⊥) → b ≡ four (planeBytes w r v l) → place ≡ storedAt s o
+  pub write-some : (q place : ℕ) (b : List ℕ) → q ≡ storesTo r s x o → (q ≡ 0 → ⊥) → b ≡ four (planeBytes w r v l) → place ≡ storedAt s o
       → remade place (laid place (λ p. isOne (bit p q)) (latch b) m) ≡ memoryAfter (writeDeed w r s x o v) l m
   unfolding storesTo
-  write-some q place b n eq nz eb ep =
+  write-some q place b eq nz eb ep =
       rw ep
       (ap (remade (storedAt s o))
       (laid-alike (storedAt s o) (λ p. isOne (bit p q)) (stores r s x o) (latch b) (planeBytes w r v l) m
       (λ p h. rw eq (test-at (stores r s x o) p h))
       (λ p h t. rw eb (latch-four (planeBytes w r v l) p h)))
-      ∙ stored-once n (some-passed (stores r s x o) (λ z. nz (eq ∙ z))))
+      ∙ stored-once (some-passed (stores r s x o) (λ z. nz (eq ∙ z))))

@@ -17,7 +17,6 @@ use graphics_paths::visited;
 use machine_types::GraphicsController;
 use machine_types::GraphicsRegisters;
 use machine_types::Sequencer;
-use machine_types::WriteMode;
 use vram_planes::PlaneStore;
 
 // The planes that are stored, as four bits: visited, and let through by the mask.
@@ -83,7 +82,7 @@ fn visit(
     }
 }
 
-// What a write does to the memory. Where no plane is stored, no pixel is remade; mode 3 only counts.
+// What a write does to the memory, in every mode. Where no plane is stored, no pixel is remade.
 pub fn write_planes(
     gc: GraphicsController,
     seq: Sequencer,
@@ -101,14 +100,11 @@ pub fn write_planes(
     ensures { λ _. ⌜ after p0 p1 p2 p3 picture ≡ memoryAfter (writeDeed (writeMode (gc .registers)) (gc .registers) seq address at byte) (gc .latches) (before p0 p1 p2 p3 picture) ⌝ }
 {
     let registers = gc.registers;
-    let mode = fields::gc::write_mode(registers);
-    if let WriteMode::Invalid = mode {
-        return;
-    }
     let planes = stored_planes(registers, seq, at, a0, address);
     if planes == 0 {
         return;
     }
+    let mode = fields::gc::write_mode(registers);
     let latches = gc.latches;
     let bytes = plane_bytes(mode, registers, latches, byte);
     let place = sequencer_masks::inner::stored_at(seq, at);

@@ -5,7 +5,6 @@ use mathlib.Core.Bool.{Bool, true, false, not}
 use borrow.Author.Tests.{not-true, not-false}
 use Rattle.machine_types.specs.declared.gc.GraphicsController.{GraphicsController}
 use Rattle.machine_types.specs.declared.gc.WriteMode.{WriteMode}
-use Rattle.machine_types.specs.declared.gc.WriteMode.the-variants.{Mode0, Mode1, Mode2, Invalid}
 use Rattle.machine_types.specs.declared.seq.Sequencer.{Sequencer}
 use Rattle.machine.specs.Memory.{Memory, shape}
 use Rattle.machine.specs.Answers.{Value, Said, said, Outcome, outcome, answered}
@@ -125,10 +124,7 @@ shown-of {S = S} a t o r f p = f ∙ ap (λ (o : Outcome S). shownOf (o .answer)
 
 write-latches : (w : WriteMode) (g : GraphicsController) (s : Sequencer) (m : Memory) (x o v : ℕ) → latchesAfter (writeDeed w (g .registers) s x o v) (g .latches) m ≡ g .latches
 unfolding writeDeed latchesAfter
-write-latches Mode0 g s m x o v = refl
-write-latches Mode1 g s m x o v = refl
-write-latches Mode2 g s m x o v = refl
-write-latches Invalid g s m x o v = refl
+write-latches w g s m x o v = refl
 
 -- registers and latches as they were
 abbrev Kept : GraphicsController → GraphicsController → Type 0

@@ -4,7 +4,7 @@ use mathlib.Core.Path.{_≡_, refl}
 use mathlib.Core.Bool.{false}
 use mathlib.Core.List.{List, [], _∷_, _++_}
 use lib.ListN.{replicate}
-use Rattle.machine.specs.Calls.{writeU8, gcReset, cpuRead, cpuPeek, cpuWrite, serialize}
+use Rattle.machine.specs.Calls.{writeU8, gcReset, gcReadData, cpuRead, cpuPeek, cpuWrite, serialize}
 use Rattle.machine.specs.Step.{Call, vram, graphics, cpu}
 use Rattle.machine.proofs.Computed.{computed}
 use Rattle.machine.proofs.Worked.{start, gcTo, seqTo, says, leads, each, tops, painted, firsts, case11}
@@ -19,8 +19,19 @@ accessed : ℕ → ℕ → ℕ → List Call
 unfolding gcTo
 accessed mode w r = gcTo 5 mode ++ (replicate w (cpu (cpuWrite 0xA0000 false 0)) ++ replicate r (cpu (cpuRead 0xA0000 false)))
 
+-- over what is painted, latches loaded at offset 0: Set/Reset 5, and Mode, Enable, Data Rotate and Bit Mask so
+shading : ℕ → ℕ → ℕ → ℕ → List Call
+unfolding gcTo painted
+shading mode enable rotate mask =
+    painted ++ (cpu (cpuRead 0xA0000 false) ∷ (gcTo 0 5 ++ (gcTo 5 mode ++ (gcTo 1 enable ++ (gcTo 3 rotate ++ gcTo 8 mask)))))
+
+-- IBM's write mode 3: byte F0 turned by 4 is 0F, and Bit Mask 3C leaves 0C of it as the mask
+shaded : ℕ → List Call
+unfolding shading
+shaded mode = shading mode 0 4 0x3C
+
 pub accesses : List (List ℕ)
-unfolding says tops painted counters accessed each gcTo seqTo leads firsts case11
+unfolding says tops painted counters accessed shading shaded each gcTo seqTo leads firsts case11
 accesses =
     -- the windows' other ends
     leads 0 (0x9FFFF ∷ 0xA0000 ∷ 0xC0000 ∷ [])
@@ -41,12 +52,24 @@ accesses =
     -- each mode through Map Mask 6, sequential and under GC odd/even; each mode under chain-four: plane 1 alone, at 0
     ∷ each (λ m. tops (painted ++ (seqTo 2 6 ++ (gcTo 5 m ++ (cpu (cpuRead 0xA0000 false) ∷ cpu (cpuWrite 0xA0001 false 0xFF) ∷ []))))) (0 ∷ 1 ∷ 2 ∷ 0x10 ∷ 0x11 ∷ 0x12 ∷ [])
     ∷ each (λ m. tops (painted ++ (seqTo 4 12 ++ (gcTo 5 m ++ (cpu (cpuRead 0xA0001 false) ∷ cpu (cpuWrite 0xA0001 false 0xFF) ∷ []))))) (0 ∷ 1 ∷ 2 ∷ [])
-    -- mode 0: an enabled Set/Reset bit replaces the byte; mode 1 stores latches; mode 3 nothing; a peek loads no latch
+    -- mode 0: an enabled Set/Reset bit replaces the byte; mode 1 stores latches; a peek loads no latch
     ∷ tops (painted ++ (gcTo 0 4 ++ (gcTo 1 5 ++ (cpu (cpuWrite 0xA0000 false 0xF0) ∷ []))))
     ∷ tops (painted ++ (gcTo 5 1 ++ (gcTo 8 0 ++ (cpu (cpuRead 0xA0000 false) ∷ cpu (cpuWrite 0xA0001 false 0xF0) ∷ []))))
-    ∷ tops (painted ++ (gcTo 5 3 ++ (cpu (cpuWrite 0xA0000 false 0xF0) ∷ [])))
     ∷ tops (painted ++ (gcTo 5 1 ++ (cpu (cpuPeek 0xA0000 false) ∷ cpu (cpuWrite 0xA0001 false 0xF0) ∷ [])))
     ∷ says (painted ++ gcTo 4 3) (cpu (cpuPeek 0xA0000 false) ∷ cpu (cpuPeek 0xA0001 false) ∷ [])
+    -- mode 3 by each function, Enable 0, then F
+    ∷ each (λ n. tops (shading 3 0 n 0x3C ++ (cpu (cpuWrite 0xA0000 false 0xF0) ∷ []))) (4 ∷ 0x0C ∷ 0x14 ∷ 0x1C ∷ [])
+    ∷ each (λ n. tops (shading 3 15 n 0x3C ++ (cpu (cpuWrite 0xA0000 false 0xF0) ∷ []))) (4 ∷ 0x0C ∷ 0x14 ∷ 0x1C ∷ [])
+    -- 1D turned right by 3 is A3; a byte 00 stores the latches
+    ∷ each (λ v. tops (shading 3 0 3 0xFF ++ (cpu (cpuWrite 0xA0001 false v) ∷ cpu (cpuWrite 0xA0000 false 0x1D) ∷ []))) (0x1D ∷ 0 ∷ [])
+    -- under GC odd/even, under the sequencer's, under chain-four (plane 2 alone, at 0), through Map Mask 6, and stopped by Map Mask 0
+    ∷ tops (shaded 0x13 ++ (cpu (cpuWrite 0xA0000 false 0xF0) ∷ cpu (cpuWrite 0xA0001 false 0xF0) ∷ []))
+    ∷ tops (shaded 3 ++ (seqTo 4 0 ++ (cpu (cpuWrite 0xA0000 false 0xF0) ∷ cpu (cpuWrite 0xA0001 false 0xF0) ∷ [])))
+    ∷ tops (shaded 3 ++ (seqTo 4 12 ++ (cpu (cpuWrite 0xA0002 false 0xF0) ∷ [])))
+    ∷ each (λ n. tops (shaded 3 ++ (seqTo 2 n ++ (cpu (cpuWrite 0xA0001 false 0xF0) ∷ [])))) (6 ∷ 0 ∷ [])
+    -- each write is counted, where the mask stops every plane too, and Bit Mask reads back as it was
+    ∷ counters (shaded 3 ++ (cpu (cpuWrite 0xA0000 false 0xF0) ∷ (seqTo 2 0 ++ (cpu (cpuWrite 0xA0000 false 0xF0) ∷ []))))
+    ∷ says (shaded 3 ++ (cpu (cpuWrite 0xA0000 false 0xF0) ∷ [])) (graphics gcReadData ∷ [])
     -- `reset` clears the latches too
     ∷ tops (painted ++ (cpu (cpuRead 0xA0000 false) ∷ graphics gcReset ∷ (gcTo 6 4 ++ (gcTo 5 1 ++ (cpu (cpuWrite 0xA0001 false 0xF0) ∷ [])))))
     -- case 11 over a plane 3 that holds C3: Map Mask 7 leaves it alone, and bit 3 of the pixels is its
@@ -55,7 +78,14 @@ accesses =
     ∷ counters (gcTo 6 4 ++ (accessed 0 1 5 ++ (accessed 1 2 0 ++ (accessed 2 3 0 ++ (accessed 3 4 0 ++ (accessed 8 0 6 ++ (cpu (cpuPeek 0xA0000 false) ∷ cpu (serialize 0) ∷ [])))))))
     ∷ []
 
+-- the function alone, And, Or, Xor, of Set/Reset 5 and latches 11, 22, 44, 88 where the mask 0C has a 1
+functionsSaid : List ℕ
+functionsSaid =
+    (0x1D ∷ 1 ∷ 0x22 ∷ 2 ∷ 0x4C ∷ 4 ∷ 0x80 ∷ 8 ∷ []) ++ ((0x11 ∷ 1 ∷ 0x22 ∷ 2 ∷ 0x44 ∷ 4 ∷ 0x80 ∷ 8 ∷ [])
+    ++ ((0x1D ∷ 1 ∷ 0x22 ∷ 2 ∷ 0x4C ∷ 4 ∷ 0x88 ∷ 8 ∷ []) ++ (0x1D ∷ 1 ∷ 0x22 ∷ 2 ∷ 0x48 ∷ 4 ∷ 0x88 ∷ 8 ∷ [])))
+
 pub accessesSaid : List (List ℕ)
+unfolding functionsSaid
 accessesSaid =
     (2 ∷ 0 ∷ 0 ∷ 0 ∷ 0 ∷ 0 ∷ 2 ∷ 0 ∷ 0 ∷ [])
     ∷ (0 ∷ 0 ∷ 0 ∷ [])
@@ -75,9 +105,17 @@ accessesSaid =
     ∷ ((0x11 ∷ 1 ∷ 0xFF ∷ 2 ∷ 0x44 ∷ 4 ∷ 0x88 ∷ 8 ∷ []) ++ ((0x11 ∷ 1 ∷ 2 ∷ 2 ∷ 0x44 ∷ 4 ∷ 0x88 ∷ 8 ∷ []) ++ (0x11 ∷ 1 ∷ 0xFF ∷ 2 ∷ 0x44 ∷ 4 ∷ 0x88 ∷ 8 ∷ [])))
     ∷ (0x00 ∷ 1 ∷ 0xF0 ∷ 2 ∷ 0xFF ∷ 4 ∷ 0xF0 ∷ 8 ∷ [])
     ∷ (0x11 ∷ 0x11 ∷ 0x22 ∷ 0x22 ∷ 0x44 ∷ 0x44 ∷ 0x88 ∷ 0x88 ∷ [])
-    ∷ (0x11 ∷ 1 ∷ 0x22 ∷ 2 ∷ 0x44 ∷ 4 ∷ 0x88 ∷ 8 ∷ [])
     ∷ (0x11 ∷ 0 ∷ 0x22 ∷ 0 ∷ 0x44 ∷ 0 ∷ 0x88 ∷ 0 ∷ [])
     ∷ (0 ∷ 0x11 ∷ 0 ∷ 1 ∷ [])
+    ∷ functionsSaid
+    ∷ functionsSaid
+    ∷ (0xB3 ∷ 0xB3 ∷ 0 ∷ 0 ∷ 0xE7 ∷ 0xE7 ∷ 8 ∷ 8 ∷ 0xB3 ∷ 0x11 ∷ 0 ∷ 0x22 ∷ 0xE7 ∷ 0x44 ∷ 8 ∷ 0x88 ∷ [])
+    ∷ (0x1D ∷ 1 ∷ 0x22 ∷ 0x22 ∷ 0x4C ∷ 4 ∷ 0x88 ∷ 0x80 ∷ [])
+    ∷ (0x1D ∷ 1 ∷ 0x22 ∷ 0x22 ∷ 0x4C ∷ 4 ∷ 0x88 ∷ 0x80 ∷ [])
+    ∷ (0x11 ∷ 1 ∷ 0x22 ∷ 2 ∷ 0x4C ∷ 4 ∷ 0x88 ∷ 8 ∷ [])
+    ∷ (0x11 ∷ 1 ∷ 0x22 ∷ 0x22 ∷ 0x44 ∷ 0x4C ∷ 0x88 ∷ 8 ∷ 0x11 ∷ 1 ∷ 0x22 ∷ 2 ∷ 0x44 ∷ 4 ∷ 0x88 ∷ 8 ∷ [])
+    ∷ (0 ∷ 0 ∷ 0 ∷ 2 ∷ 1 ∷ 0 ∷ [])
+    ∷ (0 ∷ 0x3C ∷ [])
     ∷ (0x11 ∷ 0 ∷ 0x22 ∷ 0 ∷ 0x44 ∷ 0 ∷ 0x88 ∷ 0 ∷ [])
     ∷ (0xFF ∷ 0x00 ∷ 0xFF ∷ 0xC3 ∷ 0xD ∷ 0xD ∷ 5 ∷ 5 ∷ 5 ∷ 5 ∷ 0xD ∷ 0xD ∷ [])
     ∷ (1 ∷ 2 ∷ 3 ∷ 4 ∷ 5 ∷ 6 ∷ [])
@@ -90,12 +128,15 @@ access-rules = refl
 -- ---- refused accesses, two by 2 and one by 3: what a refusal leaves as it was
 
 pub refusedAccesses : List (List ℕ)
-unfolding says tops painted counters accessed each gcTo
+unfolding says tops painted counters accessed shading shaded each gcTo
 refusedAccesses =
     -- a refused read answers 0
     says painted (cpu (cpuRead 0xB0000 false) ∷ cpu (cpuRead 0x9FFFF false) ∷ cpu (cpuRead 0xA0008 false) ∷ [])
     -- it loads no latch: mode 1 stores those of the read before it
     ∷ each (λ x. tops (painted ++ (gcTo 5 1 ++ (cpu (cpuRead 0xA0001 false) ∷ cpu (cpuRead x false) ∷ cpu (cpuWrite 0xA0000 false 0xF0) ∷ [])))) (0xB0000 ∷ 0x9FFFF ∷ 0xA0008 ∷ [])
+    -- mode 3 is refused like the other writes, and stores nothing then
+    ∷ says (shaded 3) (cpu (cpuWrite 0xB0000 false 0xF0) ∷ cpu (cpuWrite 0x9FFFF false 0xF0) ∷ cpu (cpuWrite 0xA0008 false 0xF0) ∷ [])
+    ∷ tops (shaded 3 ++ (cpu (cpuWrite 0xB0000 false 0xF0) ∷ cpu (cpuWrite 0x9FFFF false 0xF0) ∷ cpu (cpuWrite 0xA0008 false 0xF0) ∷ []))
     -- no refused access raises a counter
     ∷ counters (gcTo 6 4 ++ (accessed 0 1 1 ++ (cpu (cpuRead 0xB0000 false) ∷ cpu (cpuWrite 0x9FFFF false 0) ∷ cpu (cpuRead 0xA0008 false) ∷ cpu (cpuWrite 0xA0008 false 0) ∷ [])))
     ∷ []
@@ -103,6 +144,8 @@ refusedAccesses =
 pub refused-accesses : refusedAccesses
     ≡ (2 ∷ 0 ∷ 2 ∷ 0 ∷ 3 ∷ 0 ∷ [])
     ∷ (1 ∷ 1 ∷ 2 ∷ 2 ∷ 4 ∷ 4 ∷ 8 ∷ 8 ∷ 1 ∷ 1 ∷ 2 ∷ 2 ∷ 4 ∷ 4 ∷ 8 ∷ 8 ∷ 1 ∷ 1 ∷ 2 ∷ 2 ∷ 4 ∷ 4 ∷ 8 ∷ 8 ∷ [])
+    ∷ (2 ∷ 0 ∷ 2 ∷ 0 ∷ 3 ∷ 0 ∷ [])
+    ∷ (0x11 ∷ 1 ∷ 0x22 ∷ 2 ∷ 0x44 ∷ 4 ∷ 0x88 ∷ 8 ∷ [])
     ∷ (1 ∷ 0 ∷ 0 ∷ 0 ∷ 1 ∷ 0 ∷ [])
     ∷ []
 unfolding refusedAccesses

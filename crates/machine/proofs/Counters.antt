@@ -9,7 +9,7 @@ use Rattle.machine_types.specs.declared.gc.GraphicsControllerStats.{GraphicsCon
 use Rattle.machine_types.specs.declared.gc.GraphicsController.{GraphicsController}
 use Rattle.machine_types.specs.declared.gc.GraphicsRegisters.{GraphicsRegisters}
 use Rattle.machine_types.specs.declared.gc.WriteMode.{WriteMode}
-use Rattle.machine_types.specs.declared.gc.WriteMode.the-variants.{Mode0, Mode1, Mode2, Invalid}
+use Rattle.machine_types.specs.declared.gc.WriteMode.the-variants.{Mode0, Mode1, Mode2, Mode3}
 use Rattle.machine_types.specs.declared.gc.ReadMode.{ReadMode}
 use Rattle.machine_types.specs.declared.gc.ReadMode.the-variants.{ReadSelectedPlane, ReadComparedPlanes}
 use Rattle.machine_types.specs.declared.seq.Sequencer.{Sequencer}
@@ -33,7 +33,7 @@ module _ (c : GraphicsControllerStats) where
   write-counted Mode0 = omega arith
   write-counted Mode1 = omega arith
   write-counted Mode2 = omega arith
-  write-counted Invalid = omega arith
+  write-counted Mode3 = omega arith
 
   read-counted : (d : ReadMode) → More 1 (counted (readCounter d) c) c
   unfolding counted

@@ -81,6 +81,11 @@ reading =
     ∷ direct (seqReadLinear 14)
     ∷ []
 
+-- a bar is shaded over it in write mode 3: Set/Reset 9, Xor, rotate 4, Bit Mask 3C. Plane 3 gets its latch, price and all, the mask's bits turned; then a show
+shading : List Call
+unfolding gcTo
+shading = gcTo 5 3 ++ (gcTo 0 9 ++ (gcTo 3 0x1C ++ (gcTo 8 0x3C ++ (cpu (cpuWrite 0xA0000 false 0xF0) ∷ cpu (serialize 0) ∷ []))))
+
 -- direct stores, into plane 3 too
 storing : List Call
 storing =
@@ -112,8 +117,8 @@ ports =
     ∷ []
 
 pub calls : List Call
-unfolding painting reading storing ports
-calls = painting ++ (reading ++ (storing ++ ports))
+unfolding painting reading shading storing ports
+calls = painting ++ (reading ++ (shading ++ (storing ++ ports)))
 
 every-kind : everyKind calls ≡ true
 unfolding everyKind calls gcTo seqTo
@@ -121,9 +126,9 @@ every-kind = refl
 
 -- ---- what is answered
 
--- the answers of either run, but for the pixels: an offset's eight, the same before they were ever made, pixels 1 and 6
-labelSays : List ℕ → List ℕ → ℕ → ℕ → List Said
-labelSays eight unmade second seventh =
+-- the answers of either run, but for the pixels: an offset's eight, the same before they were ever made, pixels 1 and 6, an offset's eight with the bar
+labelSays : List ℕ → List ℕ → ℕ → ℕ → List ℕ → List Said
+labelSays eight unmade second seventh barred =
     -- the registers written, the read, the store, the registers written
     replicate 8 (aNumber 0)
     ++ (aNumber 0xF0
@@ -145,6 +150,9 @@ labelSays eight unmade second seventh =
     ∷ aNumber 0
     ∷ aShow eight
     ∷ aPixel seventh
+    -- the registers written, the bar, the show
+    ∷ (replicate 9 (aNumber 0)
+    ++ (aShow barred
     -- stored
     ∷ (replicate 7 (aNumber 0)
     -- clock 9, the mark set and polled, Map Mask 15
@@ -153,35 +161,35 @@ labelSays eight unmade second seventh =
     ∷ aNumber 1
     ∷ aNumber 2
     ∷ aNumber 15
-    -- no chain, no Chain4, A0000_64K, sequential, Standard, Don't Care 7, A0001 at offset 1
+    -- no chain, no Chain4, A0000_64K, sequential, Standard, Bit Mask 3C, A0001 at offset 1
     ∷ aNumber 0
     ∷ aNumber 0
     ∷ aNumber 1
     ∷ aNumber 0
     ∷ aNumber 0
-    ∷ aNumber 7
-    ∷ aNumber 7
+    ∷ aNumber 8
+    ∷ aNumber 0x3C
     ∷ said 0 (two 1 1)
-    ∷ [])))))
+    ∷ [])))))))
 
-cheap-says : computed cheap calls .answers ≡ labelSays (7 ∷ 3 ∷ 5 ∷ 1 ∷ 6 ∷ 2 ∷ 4 ∷ 0 ∷ []) (replicate 8 0) 3 4
+cheap-says : computed cheap calls .answers ≡ labelSays (7 ∷ 3 ∷ 5 ∷ 1 ∷ 6 ∷ 2 ∷ 4 ∷ 0 ∷ []) (replicate 8 0) 3 4 (7 ∷ 3 ∷ 5 ∷ 1 ∷ 15 ∷ 11 ∷ 4 ∷ 0 ∷ [])
 unfolding cheap calls gcTo seqTo labelSays computed
 cheap-says = refl
 
 -- the same, but for bit 3 of the pixels that carry the price
-dear-says : computed dear calls .answers ≡ labelSays (7 ∷ 11 ∷ 13 ∷ 9 ∷ 14 ∷ 10 ∷ 12 ∷ 0 ∷ []) (replicate 8 8) 11 12
+dear-says : computed dear calls .answers ≡ labelSays (7 ∷ 11 ∷ 13 ∷ 9 ∷ 14 ∷ 10 ∷ 12 ∷ 0 ∷ []) (replicate 8 8) 11 12 (7 ∷ 11 ∷ 13 ∷ 9 ∷ 7 ∷ 3 ∷ 12 ∷ 0 ∷ [])
 unfolding dear calls gcTo seqTo labelSays computed
 dear-says = refl
 
 -- ---- what is left: plane 3 differs and changes; its pixels' bit 3 with it
 
 cheap-leaves : computed cheap calls .final .memory
-    ≡ mem (0x0F ∷ 0xA0 ∷ []) (0xCC ∷ 0xFF ∷ []) (0xAA ∷ 0x0F ∷ []) (0x81 ∷ 0xC3 ∷ []) ((14 ∷ 2 ∷ 4 ∷ 0 ∷ 7 ∷ 3 ∷ 5 ∷ 9 ∷ []) ++ (11 ∷ 10 ∷ 3 ∷ 2 ∷ 6 ∷ 6 ∷ 14 ∷ 14 ∷ []))
+    ≡ mem (0x0F ∷ 0xA0 ∷ []) (0xCC ∷ 0xFF ∷ []) (0xAA ∷ 0x0F ∷ []) (0x8D ∷ 0xC3 ∷ []) ((14 ∷ 2 ∷ 4 ∷ 0 ∷ 15 ∷ 11 ∷ 5 ∷ 9 ∷ []) ++ (11 ∷ 10 ∷ 3 ∷ 2 ∷ 6 ∷ 6 ∷ 14 ∷ 14 ∷ []))
 unfolding cheap calls gcTo seqTo computed
 cheap-leaves = refl
 
 dear-leaves : computed dear calls .final .memory
-    ≡ mem (0x0F ∷ 0xA0 ∷ []) (0xCC ∷ 0xFF ∷ []) (0xAA ∷ 0x0F ∷ []) (0xBD ∷ 0xC3 ∷ []) ((14 ∷ 2 ∷ 12 ∷ 8 ∷ 15 ∷ 11 ∷ 5 ∷ 9 ∷ []) ++ (11 ∷ 10 ∷ 3 ∷ 2 ∷ 6 ∷ 6 ∷ 14 ∷ 14 ∷ []))
+    ≡ mem (0x0F ∷ 0xA0 ∷ []) (0xCC ∷ 0xFF ∷ []) (0xAA ∷ 0x0F ∷ []) (0xB1 ∷ 0xC3 ∷ []) ((14 ∷ 2 ∷ 12 ∷ 8 ∷ 7 ∷ 3 ∷ 5 ∷ 9 ∷ []) ++ (11 ∷ 10 ∷ 3 ∷ 2 ∷ 6 ∷ 6 ∷ 14 ∷ 14 ∷ []))
 unfolding dear calls gcTo seqTo computed
 dear-leaves = refl
 
@@ -197,15 +205,15 @@ obeyed = quiet-obeys 3 calls cheap (unfold quiet calls gcTo seqTo cheap computed
 pub together : Throughout 3 cheap dear calls
 together = isolation 3 calls cheap dear alike obeyed
 
--- ---- the counters: three accepted accesses, the refused one and the peek left out
+-- ---- the counters: four accepted accesses, the refused one and the peek left out
 
-counted-three : total (computed cheap calls .final .gc .stats) ≡ 3
+counted-four : total (computed cheap calls .final .gc .stats) ≡ 4
 unfolding cheap calls gcTo seqTo computed
-counted-three = refl
+counted-four = refl
 
-tallied-three : tally 0 cheap calls ≡ 3
+tallied-four : tally 0 cheap calls ≡ 4
 unfolding tally counts cheap calls gcTo seqTo computed
-tallied-three = refl
+tallied-four = refl
 
 -- ---- the picture: the stored offset's eight pixels move, the other eight stay
 

@@ -9,7 +9,7 @@ use Rattle.machine_types.specs.declared.gc.GraphicsController.{GraphicsControll
 use Rattle.machine_types.specs.declared.gc.ReadMode.{ReadMode}
 use Rattle.machine_types.specs.declared.gc.ReadMode.the-variants.{ReadSelectedPlane, ReadComparedPlanes}
 use Rattle.machine_types.specs.declared.gc.WriteMode.{WriteMode}
-use Rattle.machine_types.specs.declared.gc.WriteMode.the-variants.{Mode0, Mode1, Mode2, Invalid}
+use Rattle.machine_types.specs.declared.gc.WriteMode.the-variants.{Mode0, Mode1, Mode2, Mode3}
 use Rattle.machine_types.specs.declared.gc.ShiftMode.{ShiftMode}
 use Rattle.machine_types.specs.declared.gc.ShiftMode.the-variants.{Standard, CGACompatible, Chain4, Unused}
 use Rattle.machine_types.specs.declared.seq.Sequencer.{Sequencer}
@@ -273,7 +273,7 @@ abbrev pub writeCounter : WriteMode → ℕ
 writeCounter Mode0 = 0
 writeCounter Mode1 = 1
 writeCounter Mode2 = 2
-writeCounter Invalid = 3
+writeCounter Mode3 = 3
 
 -- reads, by read mode
 abbrev pub readCounter : ReadMode → ℕ
@@ -304,16 +304,9 @@ unfoldable pub readReply : ReadMode → GraphicsRegisters → ℕ → ℕ → Re
 readReply ReadSelectedPlane r x o = byteAt (selectedPlane r x) o
 readReply ReadComparedPlanes r x o = compare (r .«color_dont_care») (r .«color_compare»)
 
--- a visited plane is stored only if the mask has it
-abbrev pub storeVisited : WriteMode → GraphicsRegisters → Sequencer → ℕ → ℕ → ℕ → Deed
-storeVisited w r s x o v = store (storedAt s o) (λ p. visits r x p && inMask s o (a0 x) p) (λ p i l old. writtenBit w r v p i l)
-
--- modes 0, 1 and 2 store; mode 3 only counts
+-- every mode stores; a visited plane is stored only if the mask has it
 unfoldable pub writeDeed : WriteMode → GraphicsRegisters → Sequencer → ℕ → ℕ → ℕ → Deed
-writeDeed Mode0 r s x o v = storeVisited Mode0 r s x o v
-writeDeed Mode1 r s x o v = storeVisited Mode1 r s x o v
-writeDeed Mode2 r s x o v = storeVisited Mode2 r s x o v
-writeDeed Invalid r s x o v = rest
+writeDeed w r s x o v = store (storedAt s o) (λ p. visits r x p && inMask s o (a0 x) p) (λ p i l old. writtenBit w r v p i l)
 
 -- the GC's peek: plane 0, no latch or counter moves
 unfoldable pub cpuPlan : GraphicsRegisters → Sequencer → Shape → CpuCall → CpuPlan

@@ -7,7 +7,7 @@ use Rattle.bits.specs.Bit.{bit, isOne, bitOf, pick}
 use Rattle.machine_types.specs.declared.gc.LogicFunction.{LogicFunction}
 use Rattle.machine_types.specs.declared.gc.LogicFunction.the-variants.{Unmodified, And, Or, Xor}
 use Rattle.machine_types.specs.declared.gc.WriteMode.{WriteMode}
-use Rattle.machine_types.specs.declared.gc.WriteMode.the-variants.{Mode0, Mode1, Mode2, Invalid}
+use Rattle.machine_types.specs.declared.gc.WriteMode.the-variants.{Mode0, Mode1, Mode2, Mode3}
 use Rattle.machine_types.specs.declared.gc.GraphicsRegisters.{GraphicsRegisters}
 use Rattle.machine.specs.Graphics.{oddEven, isOddEven, rotateCount, logicFunction}
 use Rattle.machine.specs.Address.{a0}
@@ -27,17 +27,21 @@ combined And d l = min d l
 combined Or d l = max d l
 combined Xor d l = differ d l
 
--- bit by bit, a Bit Mask 1 takes the function of data and latch, a 0 the latch
-unfoldable pub masked : GraphicsRegisters → ℕ → ℕ → ℕ → ℕ
-masked r i d l = pick (isOne (bit i (r .bitmask))) (combined (logicFunction r) d l) l
+-- bit by bit, a mask 1 takes the function of data and latch, a 0 the latch
+unfoldable pub masked : LogicFunction → ℕ → ℕ → ℕ → ℕ
+masked f m d l = pick (isOne m) (combined f d l) l
+
+-- mode 3's mask, the same for all planes: the byte rotated, ANDed with Bit Mask
+unfoldable pub maskBit : GraphicsRegisters → ℕ → ℕ → ℕ
+maskBit r x i = min (rotated (rotateCount r) x i) (bit i (r .bitmask))
 
 -- bit i of what a write of x puts into plane p, where the latch's bit i is l.
--- mode 1 stores latches; mode 2: bit p of the byte, spread; mode 3 only counts
+-- mode 1 stores latches; mode 2: bit p of the byte, spread; mode 3: the plane's Set/Reset bit, spread, Enable ignored. Modes 0 and 2 are masked by Bit Mask
 unfoldable pub writtenBit : WriteMode → GraphicsRegisters → ℕ → ℕ → ℕ → ℕ → ℕ
-writtenBit Mode0 r x p i l = masked r i (dataBit r x p i) l
+writtenBit Mode0 r x p i l = masked (logicFunction r) (bit i (r .bitmask)) (dataBit r x p i) l
 writtenBit Mode1 r x p i l = l
-writtenBit Mode2 r x p i l = masked r i (bit p x) l
-writtenBit Invalid r x p i l = l
+writtenBit Mode2 r x p i l = masked (logicFunction r) (bit i (r .bitmask)) (bit p x) l
+writtenBit Mode3 r x p i l = masked (logicFunction r) (maskBit r x i) (bit p (r .«set_reset»)) l
 
 -- writes visit planes 0..3, or a0 and 2 + a0 under GC odd/even
 unfoldable pub visits : GraphicsRegisters → ℕ → ℕ → Bool

@@ -14,7 +14,7 @@ use Rattle.machine_types.specs.declared.gc.MemoryMap.the-variants.{«A0000_128k
 use Rattle.machine_types.specs.declared.gc.LogicFunction.{LogicFunction}
 use Rattle.machine_types.specs.declared.gc.LogicFunction.the-variants.{Unmodified, And, Or, Xor}
 use Rattle.machine_types.specs.declared.gc.WriteMode.{WriteMode}
-use Rattle.machine_types.specs.declared.gc.WriteMode.the-variants.{Mode0, Mode1, Mode2, Invalid}
+use Rattle.machine_types.specs.declared.gc.WriteMode.the-variants.{Mode0, Mode1, Mode2, Mode3}
 use Rattle.machine_types.specs.declared.gc.ReadMode.{ReadMode}
 use Rattle.machine_types.specs.declared.gc.ReadMode.the-variants.{ReadSelectedPlane, ReadComparedPlanes}
 use Rattle.machine_types.specs.declared.gc.ShiftMode.{ShiftMode}
@@ -124,7 +124,7 @@ logicFunction r = getD (Unmodified ∷ And ∷ Or ∷ Xor ∷ []) (field 3 2 (r 
 
 -- Mode: write mode bits 0-1
 unfoldable pub writeMode : GraphicsRegisters → WriteMode
-writeMode r = getD (Mode0 ∷ Mode1 ∷ Mode2 ∷ Invalid ∷ []) (field 0 2 (r .mode)) Mode0
+writeMode r = getD (Mode0 ∷ Mode1 ∷ Mode2 ∷ Mode3 ∷ []) (field 0 2 (r .mode)) Mode0
 
 -- Mode: read mode bit 3
 unfoldable pub readMode : GraphicsRegisters → ReadMode

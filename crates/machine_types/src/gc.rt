@@ -53,7 +53,7 @@ pub enum WriteMode {
     Mode0,
     Mode1,
     Mode2,
-    Invalid,
+    Mode3,
 }
 
 pub enum ReadMode {

@@ -112,6 +112,8 @@ operations =
     ∷ played (8 ∷ 1 ∷ 8 ∷ 3 ∷ 8 ∷ 4 ∷ [])
     -- a read of A0000, a peek at another place, write mode 1: the latches are those of the read
     ∷ played (5 ∷ 0x80 ∷ 0x80 ∷ 0x28 ∷ 0 ∷ 7 ∷ 0x82 ∷ 0x80 ∷ 0x28 ∷ 1 ∷ 1 ∷ 5 ∷ 2 ∷ 1 ∷ 6 ∷ 0x82 ∷ 0x80 ∷ 0x28 ∷ 0 ∷ 0x7F ∷ [])
+    -- write mode 3: byte A5 at A0003
+    ∷ played (1 ∷ 5 ∷ 2 ∷ 3 ∷ 6 ∷ 0x83 ∷ 0x80 ∷ 0x28 ∷ 0 ∷ 0xA5 ∷ 1 ∷ [])
     -- another map: reads of B8001 and of A0002
     ∷ played (1 ∷ 6 ∷ 2 ∷ 12 ∷ 5 ∷ 0x81 ∷ 0x80 ∷ 0x2E ∷ 1 ∷ 5 ∷ 0x82 ∷ 0x80 ∷ 0x28 ∷ 0 ∷ [])
     -- an operation of 9, a page of 2, a read that is cut, a number that is damaged: each after a record that stays done
@@ -177,6 +179,10 @@ operationsSaid =
     ∷ (0x10 ∷ 0x20 ∷ 0x40 ∷ 0x80 ∷ []) ∷ (10 ∷ 21 ∷ 30 ∷ 40 ∷ 51 ∷ 60 ∷ [])
     ∷ (0x10 ∷ 0x11 ∷ 0x10 ∷ 0x13 ∷ 0x20 ∷ 0x21 ∷ 0x20 ∷ 0x23 ∷ 0x40 ∷ 0x41 ∷ 0x42 ∷ 0x43 ∷ 0x80 ∷ 0x81 ∷ 0x80 ∷ 0x83 ∷ [])
     ∷ (replicate 8 1 ++ (replicate 8 2 ++ ((8 ∷ 4 ∷ 2 ∷ 1 ∷ 0 ∷ 0 ∷ 4 ∷ 0 ∷ []) ++ replicate 8 4))) ∷ [])
+    -- the mask is D2; Set/Reset 9 gives planes 0 and 3 FF there, though Enable has plane 3 alone, and plane 1 00; the latches' other bits are kept. At offset 2
+    ∷ ((line 1 1 0 0 ++ (line 2 2 0 0 ++ line 3 6 0 0)) ∷ (5 ∷ 5 ∷ 9 ∷ 8 ∷ 3 ∷ 1 ∷ 1 ∷ 3 ∷ 6 ∷ 7 ∷ 0xFF ∷ []) ∷ sceneSeq ∷ sceneLatches ∷ (10 ∷ 20 ∷ 30 ∷ 41 ∷ 50 ∷ 60 ∷ [])
+    ∷ (0x10 ∷ 0x11 ∷ 0xD3 ∷ 0x13 ∷ 0x20 ∷ 0x21 ∷ 0 ∷ 0x23 ∷ 0x40 ∷ 0x41 ∷ 0x42 ∷ 0x43 ∷ 0x80 ∷ 0x81 ∷ 0xDA ∷ 0x83 ∷ [])
+    ∷ (replicate 8 1 ++ (replicate 8 2 ++ ((9 ∷ 13 ∷ 0 ∷ 9 ∷ 8 ∷ 0 ∷ 13 ∷ 1 ∷ []) ++ replicate 8 4))) ∷ [])
     -- B8000: minus B8000; A0002 is outside its window
     ∷ ((line 1 1 0 0 ++ (line 2 2 0 0 ++ (line 3 5 0 0x21 ++ line 4 5 2 0))) ∷ (6 ∷ 6 ∷ 9 ∷ 8 ∷ 3 ∷ 1 ∷ 1 ∷ 4 ∷ 12 ∷ 7 ∷ 0xFF ∷ []) ∷ sceneSeq
     ∷ (0x11 ∷ 0x21 ∷ 0x41 ∷ 0x81 ∷ []) ∷ (10 ∷ 20 ∷ 30 ∷ 40 ∷ 51 ∷ 60 ∷ []) ∷ sceneBytes ∷ scenePixels ∷ [])

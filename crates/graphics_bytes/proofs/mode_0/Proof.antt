@@ -1,9 +1,8 @@
 -- `mode_0` is the logic step of the Set/Reset step: from the two functions' contracts.
-use mathlib.Core.Path.{_∙_}
+use mathlib.Core.Path.{refl, _∙_}
 use borrow.Author.Needs.{needs}
 use Rattle.bits.proofs.Laws.{bit-lt}
 use Rattle.bits.specs.Bit.{bit, isOne}
-use Rattle.machine.specs.DataPath.{masked}
 use Rattle.machine.specs.Graphics.{logicFunction}
 use Rattle.graphics_bytes.proofs.Step.{step-of}
 use Rattle.graphics_bytes.proofs.Bytes.{data-bit}
@@ -20,13 +19,12 @@ logic-step-requires : tie.Need-logic-step-requires
 logic-step-requires c κs = search needs
 
 returns : tie.Need-returns
-unfolding masked
 returns c =
     let after-set-reset : tie.After-set-reset = search needs in
     let start : tie.Start = search needs in
     let a = start .args in
     let r = a .registers in
-    c .logic-step .ensures ∙ rw (c .before .function .ensures, after-set-reset .set-reset .ensures) (step-of (logicFunction r) (r .bitmask) _ (a .latch) _
+    c .logic-step .ensures ∙ rw (c .before .function .ensures, after-set-reset .set-reset .ensures) (step-of (logicFunction r) (r .bitmask) _ (a .latch) _ _ (λ i h. refl)
     (data-bit (isOne (bit (a .plane) (r .«enable_set_reset»))) (bit (a .plane) (r .«set_reset»)) (a .turned) (bit-lt (a .plane) (r .«set_reset»))))
 
 pub mode-0-spec : {M : Type 1} → statement M

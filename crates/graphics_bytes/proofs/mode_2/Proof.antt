@@ -1,10 +1,9 @@
 -- `mode_2` is the logic step of the plane's bit, spread: from the two functions' contracts.
-use mathlib.Core.Path.{_∙_}
+use mathlib.Core.Path.{refl, _∙_}
 use borrow.Author.Needs.{needs}
 use Rattle.bits.proofs.Bitwise.{bit-spread}
 use Rattle.bits.proofs.Laws.{bit-lt}
 use Rattle.bits.specs.Bit.{bit}
-use Rattle.machine.specs.DataPath.{masked}
 use Rattle.machine.specs.Graphics.{logicFunction}
 use Rattle.graphics_bytes.proofs.Step.{step-of}
 use Rattle.graphics_bytes.proofs.mode_2.Statement.{statement}
@@ -20,14 +19,13 @@ logic-step-requires : tie.Need-logic-step-requires
 logic-step-requires c κs = search needs
 
 returns : tie.Need-returns
-unfolding masked
 returns c =
     let after-spread : tie.After-spread = search needs in
     let start : tie.Start = search needs in
     let a = start .args in
     let r = a .registers in
     c .logic-step .ensures ∙ rw (c .before .function .ensures, after-spread .spread .ensures)
-    (step-of (logicFunction r) (r .bitmask) _ (a .latch) (λ i. bit (a .plane) (a .byte)) (λ i h. bit-spread i (bit (a .plane) (a .byte)) h (bit-lt (a .plane) (a .byte))))
+    (step-of (logicFunction r) (r .bitmask) _ (a .latch) _ (λ i. bit (a .plane) (a .byte)) (λ i h. refl) (λ i h. bit-spread i (bit (a .plane) (a .byte)) h (bit-lt (a .plane) (a .byte))))
 
 pub mode-2-spec : {M : Type 1} → statement M
 mode-2-spec =

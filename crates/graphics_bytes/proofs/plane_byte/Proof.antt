@@ -1,9 +1,9 @@
--- `plane_byte` is the machine's byte for a plane in every mode: in modes 1 and 3 since a latch is a byte.
+-- `plane_byte` is the machine's byte for a plane in every mode: from the modes' contracts, and in mode 1 since a latch is a byte.
 use mathlib.Core.Path.{sym, _∙_}
 use borrow.Author.Needs.{needs}
 use Rattle.bits.proofs.Laws.{of-bit}
 use Rattle.machine.specs.DataPath.{writtenBit}
-use Rattle.graphics_bytes.proofs.Bytes.{mode-0-is}
+use Rattle.graphics_bytes.proofs.Bytes.{mode-0-is, mode-3-is}
 use Rattle.graphics_bytes.proofs.plane_byte.Statement.{statement}
 use Rattle.graphics_bytes.proofs.plane_byte.Tie as tie
 
@@ -25,6 +25,9 @@ mode-2-requires c κs = search needs
 enum-told-4 : tie.Need-enum-told-4
 enum-told-4 c = search needs
 
+mode-3-requires : tie.Need-mode-3-requires
+mode-3-requires c κs = search needs
+
 returns : tie.Need-returns
 returns c =
     let start : tie.Start = search needs in
@@ -43,10 +46,10 @@ returns-3 c =
     rw (c .before .enum-told3 .given .1) (c .mode-2 .ensures)
 
 returns-4 : tie.Need-returns-4
-unfolding writtenBit
 returns-4 c =
     let start : tie.Start = search needs in
-    rw (c .enum-told4 .given .1) (sym (of-bit 8 (start .args .latch) (start .fits .latch .fits)))
+    let a = start .args in
+    rw (c .before .enum-told4 .given .1) (c .mode-3 .ensures ∙ mode-3-is (a .registers) (a .byte) (a .plane) (a .latch) (a .turned) (start .pre .1))
 
 pub plane-byte-spec : {M : Type 1} → statement M
 plane-byte-spec =
@@ -58,6 +61,7 @@ plane-byte-spec =
     enum-told-3
     mode-2-requires
     enum-told-4
+    mode-3-requires
     returns
     returns-2
     returns-3

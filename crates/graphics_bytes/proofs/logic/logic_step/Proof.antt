@@ -4,7 +4,8 @@ use borrow.Author.Needs.{needs}
 use Rattle.bits.specs.Bit.{bit, byteOf}
 use Rattle.machine_types.specs.declared.gc.LogicFunction.the-variants.{Unmodified, And, Or, Xor}
 use Rattle.machine_types.specs.declared.gc.LogicFunction.{LogicFunction}
-use Rattle.graphics_bytes.proofs.Step.{whole, stepped, whole-is}
+use Rattle.machine.specs.DataPath.{masked}
+use Rattle.graphics_bytes.proofs.Step.{whole, whole-is}
 use Rattle.graphics_bytes.proofs.logic.logic_step.Statement.{statement}
 use Rattle.graphics_bytes.proofs.logic.logic_step.Tie as tie
 
@@ -22,7 +23,7 @@ enum-told-4 c = search needs
 
 -- in the arm of the function f
 at : (a : tie.Start) (f : LogicFunction) → a .args .function ≡ f
-    → whole f (a .args .mask) (a .args .«data») (a .args .latch) ≡ byteOf (λ i. stepped (a .args .function) (bit i (a .args .mask)) (bit i (a .args .«data»)) (bit i (a .args .latch)))
+    → whole f (a .args .mask) (a .args .«data») (a .args .latch) ≡ byteOf (λ i. masked (a .args .function) (bit i (a .args .mask)) (bit i (a .args .«data»)) (bit i (a .args .latch)))
 at a f e = rw e (whole-is (a .args .mask) (a .args .«data») (a .args .latch) (a .fits .mask .fits) (a .fits .«data» .fits) (a .fits .latch .fits) f)
 
 returns : tie.Need-returns

@@ -1,7 +1,5 @@
 -- `write_planes` does the mode's deed: nothing where no plane is stored, else the bytes laid by `visit` and the pixels remade once.
 use native.Mathlib.Omega.{arith}
-use mathlib.Core.List.{[], _∷_}
-use mathlib.Core.Logic.{inl, inr}
 use mathlib.Core.Path.{_≡_, ap, _∙_}
 use borrow.Author.Needs.{needs}
 use Rattle.machine_types.specs.declared.gc.WriteMode.{WriteMode}
@@ -11,8 +9,7 @@ use Rattle.machine.specs.Calls.{writeDeed}
 use Rattle.machine.specs.Deeds.{latch, laid, remade, memoryAfter}
 use Rattle.machine.specs.Memory.{mem}
 use Rattle.sequencer_masks.proofs.Laws.{stored-at-le}
-use Rattle.graphics_visits.proofs.Planes.{write-counts, write-none, write-some}
-use types.Run.{OneOf}
+use Rattle.graphics_visits.proofs.Planes.{write-none, write-some}
 use Rattle.graphics_visits.proofs.inner.write_planes.Statement.{statement}
 use Rattle.graphics_visits.proofs.inner.write_planes.Tie as tie
 
@@ -29,12 +26,6 @@ bytes-of after-visit = search needs
 place-of : tie.After-visit → tie.After-stored-at
 place-of after-visit = search needs
 
--- the keys of modes 0, 1 and 2 are not mode 3's
-not-3 : OneOf (0 ∷ 1 ∷ 2 ∷ []) 3 → ⊥
-not-3 (inl e) = omega arith
-not-3 (inr (inl e)) = omega arith
-not-3 (inr (inr e)) = omega arith
-
 -- where some plane is stored, the bytes laid and the pixels remade are the mode's deed
 some-stored : (after-visit : tie.After-visit) → let a = start-of after-visit .args in
     let m = mem (a .p0 .now) (a .p1 .now) (a .p2 .now) (a .p3 .now) (a .picture .now) in
@@ -45,44 +36,27 @@ some-stored : (after-visit : tie.After-visit) → let a = start-of after-visit .
 unfolding start-of planes-of bytes-of place-of
 some-stored after-visit =
     let else1 : tie.Else1 = search needs in
-    let at-match-keys2 : tie.At-match-keys2 = search needs in
     let after-write-mode : tie.After-write-mode = search needs in
     let a = start-of after-visit .args in
     let m = mem (a .p0 .now) (a .p1 .now) (a .p2 .now) (a .p3 .now) (a .picture .now) in
     let r = a .gc .registers in
     write-some (after-write-mode .write-mode .result) r (a .seq) (a .address) (a .at) (a .byte) (a .gc .latches) m _ _ _
-    (λ e. not-3 (rw e at (at-match-keys2 .match .keys2))) (planes-of after-visit .stored-planes .ensures) (else1 .if1 .left)
+    (planes-of after-visit .stored-planes .ensures) (else1 .if1 .left)
     (bytes-of after-visit .plane-bytes .ensures) (place-of after-visit .stored-at .ensures)
-    ∙ ap (λ (w : WriteMode). memoryAfter (writeDeed w r (a .seq) (a .address) (a .at) (a .byte)) (a .gc .latches) m) (after-write-mode .write-mode .ensures)
-
-write-mode-requires : tie.Need-write-mode-requires
-write-mode-requires c κs = search needs
-
-enum-told : tie.Need-enum-told
-enum-told c = search needs
-
-returns : tie.Need-returns
-returns c =
-    let after-write-mode : tie.After-write-mode = search needs in
-    let start : tie.Start = search needs in
-    let a = start .args in
-    let m = mem (a .p0 .now) (a .p1 .now) (a .p2 .now) (a .p3 .now) (a .picture .now) in
-    let r = a .gc .registers in
-    write-counts (after-write-mode .write-mode .result) r (a .seq) (a .address) (a .at) (a .byte) (a .gc .latches) m (c .enum-told .given .1)
     ∙ ap (λ (w : WriteMode). memoryAfter (writeDeed w r (a .seq) (a .address) (a .at) (a .byte)) (a .gc .latches) m) (after-write-mode .write-mode .ensures)
 
 stored-planes-requires : tie.Need-stored-planes-requires
 stored-planes-requires c κs = search needs
 
-returns-2 : tie.Need-returns-2
-returns-2 c =
-    let after-write-mode : tie.After-write-mode = search needs in
+returns : tie.Need-returns
+returns c =
     let start : tie.Start = search needs in
     let a = start .args in
-    let m = mem (a .p0 .now) (a .p1 .now) (a .p2 .now) (a .p3 .now) (a .picture .now) in
     let r = a .gc .registers in
-    write-none (after-write-mode .write-mode .result) r (a .seq) (a .address) (a .at) (a .byte) (a .gc .latches) m _ (c .before .stored-planes .ensures) (c .if1 .taken)
-    ∙ ap (λ (w : WriteMode). memoryAfter (writeDeed w r (a .seq) (a .address) (a .at) (a .byte)) (a .gc .latches) m) (after-write-mode .write-mode .ensures)
+    write-none (writeMode r) r (a .seq) (a .address) (a .at) (a .byte) (a .gc .latches) _ _ (c .before .stored-planes .ensures) (c .if1 .taken)
+
+write-mode-requires : tie.Need-write-mode-requires
+write-mode-requires c κs = search needs
 
 plane-bytes-requires : tie.Need-plane-bytes-requires
 plane-bytes-requires c κs = search needs
@@ -121,9 +95,9 @@ same-length-4 c = search needs
 same-length-5 : tie.Need-same-length-5
 same-length-5 c = search needs
 
-returns-3 : tie.Need-returns-3
+returns-2 : tie.Need-returns-2
 unfolding start-of planes-of bytes-of place-of
-returns-3 c =
+returns-2 c =
     let after-remake : tie.After-remake = search needs in
     let after-visit : tie.After-visit = search needs in
     after-remake .remake .ensures ∙ ap (remade (place-of after-visit .stored-at .result)) (after-visit .visit .ensures) ∙ some-stored after-visit
@@ -132,11 +106,9 @@ pub write-planes-spec : {M : Type 1} → statement M
 write-planes-spec =
     tie.close
     (tie.spec
-    write-mode-requires
-    enum-told
-    returns
     stored-planes-requires
-    returns-2
+    returns
+    write-mode-requires
     plane-bytes-requires
     stored-at-requires
     visit-requires
@@ -146,4 +118,4 @@ write-planes-spec =
     same-length-3
     same-length-4
     same-length-5
-    returns-3)
+    returns-2)
