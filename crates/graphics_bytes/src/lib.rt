@@ -34,7 +34,8 @@ fn set_reset(registers: GraphicsRegisters, data: u8, plane: u8) -> u8
 // Mode 0: the rotated byte, or the plane's Set/Reset bit, and the logic step.
 fn mode_0(registers: GraphicsRegisters, turned: u8, plane: u8, latch: u8) -> u8
     requires { ⌜ plane ≤ 3 ⌝ }
-    ensures { λ r. ⌜ r ≡ byteOf (λ i. masked (logicFunction registers) (bit i (registers .bitmask)) (pick (isOne (bit plane (registers .«enable_set_reset»))) (bit plane (registers .«set_reset»)) (bit i turned)) (bit i latch)) ⌝ }
+    ensures { λ r. ⌜ r ≡ byteOf (λ i. masked (logicFunction registers) (bit i (registers .bitmask))
+        (pick (isOne (bit plane (registers .«enable_set_reset»))) (bit plane (registers .«set_reset»)) (bit i turned)) (bit i latch)) ⌝ }
 {
     let data = set_reset(registers, turned, plane);
     logic_step(
