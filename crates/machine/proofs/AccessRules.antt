@@ -62,7 +62,9 @@ accesses =
     ∷ each (λ n. tops (shading 3 15 n 0x3C ++ (cpu (cpuWrite 0xA0000 false 0xF0) ∷ []))) (4 ∷ 0x0C ∷ 0x14 ∷ 0x1C ∷ [])
     -- 1D turned right by 3 is A3; a byte 00 stores the latches
     ∷ each (λ v. tops (shading 3 0 3 0xFF ++ (cpu (cpuWrite 0xA0001 false v) ∷ cpu (cpuWrite 0xA0000 false 0x1D) ∷ []))) (0x1D ∷ 0 ∷ [])
-    -- under GC odd/even, under the sequencer's, under chain-four (plane 2 alone, at 0), through Map Mask 6, and stopped by Map Mask 0
+    -- the same registers in modes 0 and 2, byte 5A: Bit Mask alone is the mask, and mode 2 does not rotate
+    ∷ each (λ m. tops (shaded m ++ (cpu (cpuWrite 0xA0000 false 0x5A) ∷ []))) (0 ∷ 2 ∷ [])
+    -- mode 3 under GC odd/even, under the sequencer's, under chain-four (plane 2 alone, at 0), through Map Mask 6, and stopped by Map Mask 0
     ∷ tops (shaded 0x13 ++ (cpu (cpuWrite 0xA0000 false 0xF0) ∷ cpu (cpuWrite 0xA0001 false 0xF0) ∷ []))
     ∷ tops (shaded 3 ++ (seqTo 4 0 ++ (cpu (cpuWrite 0xA0000 false 0xF0) ∷ cpu (cpuWrite 0xA0001 false 0xF0) ∷ [])))
     ∷ tops (shaded 3 ++ (seqTo 4 12 ++ (cpu (cpuWrite 0xA0002 false 0xF0) ∷ [])))
@@ -110,6 +112,7 @@ accessesSaid =
     ∷ functionsSaid
     ∷ functionsSaid
     ∷ (0xB3 ∷ 0xB3 ∷ 0 ∷ 0 ∷ 0xE7 ∷ 0xE7 ∷ 8 ∷ 8 ∷ 0xB3 ∷ 0x11 ∷ 0 ∷ 0x22 ∷ 0xE7 ∷ 0x44 ∷ 8 ∷ 0x88 ∷ [])
+    ∷ (0x25 ∷ 1 ∷ 0x26 ∷ 2 ∷ 0x64 ∷ 4 ∷ 0xA4 ∷ 8 ∷ 1 ∷ 1 ∷ 0x3E ∷ 2 ∷ 0x40 ∷ 4 ∷ 0xBC ∷ 8 ∷ [])
     ∷ (0x1D ∷ 1 ∷ 0x22 ∷ 0x22 ∷ 0x4C ∷ 4 ∷ 0x88 ∷ 0x80 ∷ [])
     ∷ (0x1D ∷ 1 ∷ 0x22 ∷ 0x22 ∷ 0x4C ∷ 4 ∷ 0x88 ∷ 0x80 ∷ [])
     ∷ (0x11 ∷ 1 ∷ 0x22 ∷ 2 ∷ 0x4C ∷ 4 ∷ 0x88 ∷ 8 ∷ [])
