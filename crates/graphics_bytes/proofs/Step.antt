@@ -1,9 +1,9 @@
 -- The logic step on whole bytes is the machine's rule bit by bit.
 use Prim.Native.Nat.{ℕ, _-_, _<_, _^_, min, max}
-use mathlib.Core.Path.{_≡_, ap₂, _∙_}
+use mathlib.Core.Path.{_≡_, _∙_}
 use lib.Bits.{bitAnd, bitOr, bitXor, differ}
 use Rattle.bits.specs.Bit.{bit, byteOf}
-use Rattle.bits.proofs.Laws.{bit-lt, of-ext, is-of}
+use Rattle.bits.proofs.Laws.{bit-lt, is-of}
 use Rattle.bits.proofs.Bitwise.{bitwise, bytes}
 use Rattle.bits.proofs.Decide.{same3}
 use Rattle.machine_types.specs.declared.gc.LogicFunction.{LogicFunction}
@@ -47,8 +47,3 @@ module _ (m d l : ℕ) (hm : m < 256) (hd : d < 256) (hl : l < 256) where
 
   pub whole-is : (f : LogicFunction) → whole f m d l ≡ byteOf (λ i. masked f (bit i m) (bit i d) (bit i l))
   whole-is f = is-of 8 (small f) (λ i h. apart f i h ∙ right f (bit i m) (bit i d) (bit i l) (bit-lt i m) (bit-lt i d) (bit-lt i l))
-
--- the logic step of a mask and a data byte that are told bit by bit
-pub step-of : (f : LogicFunction) (m d l : ℕ) (c e : ℕ → ℕ) → ((i : ℕ) → i < 8 → bit i m ≡ c i) → ((i : ℕ) → i < 8 → bit i d ≡ e i)
-    → byteOf (λ i. masked f (bit i m) (bit i d) (bit i l)) ≡ byteOf (λ i. masked f (c i) (e i) (bit i l))
-step-of f m d l c e g h = of-ext 8 (λ i k. ap₂ (λ (a b : ℕ). masked f a b (bit i l)) (g i k) (h i k))

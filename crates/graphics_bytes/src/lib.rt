@@ -2,13 +2,12 @@
 mod logic;
 
 ghost use mathlib.Core.Path.{_≡_};
-ghost use Prim.Native.Nat.{_<_, _≤_, min};
+ghost use Prim.Native.Nat.{_<_, _≤_};
 ghost use Rattle.bits.specs.Bit.{bit, byteOf, isOne, pick};
-ghost use Rattle.machine.specs.Graphics.{rotateCount, logicFunction};
-ghost use Rattle.machine.specs.DataPath.{rotated, masked, writtenBit};
+ghost use Rattle.machine.specs.DataPath.{rotated};
 ghost use Rattle.graphics_bytes.specs.PlaneBytes.{planeBytes, four};
 use bits::inner::spread;
-use logic::logic_step;
+use logic::logic_steps;
 use machine_types::GraphicsRegisters;
 use machine_types::WriteMode;
 
@@ -31,66 +30,29 @@ fn set_reset(registers: GraphicsRegisters, data: u8, plane: u8) -> u8
     data
 }
 
-// Mode 0: the rotated byte, or the plane's Set/Reset bit, and the logic step.
-fn mode_0(registers: GraphicsRegisters, turned: u8, plane: u8, latch: u8) -> u8
-    requires { ⌜ plane ≤ 3 ⌝ }
-    ensures { λ r. ⌜ r ≡ byteOf (λ i. masked (logicFunction registers) (bit i (registers .bitmask))
-        (pick (isOne (bit plane (registers .«enable_set_reset»))) (bit plane (registers .«set_reset»)) (bit i turned)) (bit i latch)) ⌝ }
+// The Set/Reset step of each plane.
+fn set_resets(registers: GraphicsRegisters, data: u8) -> [u8; 4]
+    ensures { λ r. ⌜ r ≡ four (λ p. pick (isOne (bit p (registers .«enable_set_reset»))) (byteOf (λ i. bit p (registers .«set_reset»))) «data») ⌝ }
 {
-    let data = set_reset(registers, turned, plane);
-    logic_step(
-        fields::gc::function(registers),
-        registers.bitmask,
-        data,
-        latch,
-    )
+    let d0 = set_reset(registers, data, 0);
+    let d1 = set_reset(registers, data, 1);
+    let d2 = set_reset(registers, data, 2);
+    let d3 = set_reset(registers, data, 3);
+    [d0, d1, d2, d3]
 }
 
-// Mode 2: the plane's bit of the byte, spread, and the logic step.
-fn mode_2(registers: GraphicsRegisters, byte: u8, plane: u8, latch: u8) -> u8
-    requires { ⌜ plane ≤ 3 ⌝ }
-    ensures { λ r. ⌜ r ≡ byteOf (λ i. masked (logicFunction registers) (bit i (registers .bitmask)) (bit plane byte) (bit i latch)) ⌝ }
+// Each plane's bit of a byte, spread.
+fn spreads(byte: u8) -> [u8; 4]
+    ensures { λ r. ⌜ r ≡ four (λ p. byteOf (λ i. bit p byte)) ⌝ }
 {
-    let data = spread(byte, plane);
-    logic_step(
-        fields::gc::function(registers),
-        registers.bitmask,
-        data,
-        latch,
-    )
+    let d0 = spread(byte, 0);
+    let d1 = spread(byte, 1);
+    let d2 = spread(byte, 2);
+    let d3 = spread(byte, 3);
+    [d0, d1, d2, d3]
 }
 
-// Mode 3: the plane's Set/Reset bit, spread, whatever Enable holds, and the logic step under the rotated byte and Bit Mask.
-fn mode_3(registers: GraphicsRegisters, turned: u8, plane: u8, latch: u8) -> u8
-    requires { ⌜ plane ≤ 3 ⌝ }
-    ensures { λ r. ⌜ r ≡ byteOf (λ i. masked (logicFunction registers) (min (bit i turned) (bit i (registers .bitmask))) (bit plane (registers .«set_reset»)) (bit i latch)) ⌝ }
-{
-    let data = spread(registers.set_reset, plane);
-    let mask = turned & registers.bitmask;
-    logic_step(fields::gc::function(registers), mask, data, latch)
-}
-
-// The byte that a plane is to have, if it is stored: mode 1 has the latch as it is.
-fn plane_byte(
-    mode: WriteMode,
-    registers: GraphicsRegisters,
-    turned: u8,
-    byte: u8,
-    plane: u8,
-    latch: u8,
-) -> u8
-    requires { ⌜ (plane ≤ 3) × (turned ≡ byteOf (rotated (rotateCount registers) byte)) ⌝ }
-    ensures { λ r. ⌜ r ≡ byteOf (λ i. writtenBit mode registers byte plane i (bit i latch)) ⌝ }
-{
-    match mode {
-        WriteMode::Mode0 => mode_0(registers, turned, plane, latch),
-        WriteMode::Mode1 => latch,
-        WriteMode::Mode2 => mode_2(registers, byte, plane, latch),
-        WriteMode::Mode3 => mode_3(registers, turned, plane, latch),
-    }
-}
-
-// The four planes' bytes; the byte is rotated once.
+// The four planes' bytes, by each mode's mask and data. Mode 1 has no bit in its mask, so that it stores latches; mode 3 does not look at Enable.
 pub fn plane_bytes(
     mode: WriteMode,
     registers: GraphicsRegisters,
@@ -100,9 +62,21 @@ pub fn plane_bytes(
     ensures { λ r. ⌜ r ≡ four (planeBytes mode registers byte latches) ⌝ }
 {
     let turned = rotate_right_u8(byte, fields::gc::rotate_count(registers));
-    let b0 = plane_byte(mode, registers, turned, byte, 0, latches[0]);
-    let b1 = plane_byte(mode, registers, turned, byte, 1, latches[1]);
-    let b2 = plane_byte(mode, registers, turned, byte, 2, latches[2]);
-    let b3 = plane_byte(mode, registers, turned, byte, 3, latches[3]);
-    [b0, b1, b2, b3]
+    let function = fields::gc::function(registers);
+    let mask = registers.bitmask;
+    match mode {
+        WriteMode::Mode0 => {
+            let data = set_resets(registers, turned);
+            logic_steps(function, mask, data, latches)
+        }
+        WriteMode::Mode1 => logic_steps(function, 0x00, latches, latches),
+        WriteMode::Mode2 => {
+            let data = spreads(byte);
+            logic_steps(function, mask, data, latches)
+        }
+        WriteMode::Mode3 => {
+            let data = spreads(registers.set_reset);
+            logic_steps(function, turned & mask, data, latches)
+        }
+    }
 }

@@ -21,6 +21,7 @@ use Rattle.machine.specs.Deeds.{latch, any, laid, remade, stored, storedByte, m
 use Rattle.machine.specs.Calls.{writeDeed}
 use Rattle.machine.proofs.Laws.{below, laid-more, laid-skip}
 use Rattle.graphics_bytes.specs.PlaneBytes.{planeBytes, four}
+use Rattle.graphics_bytes.proofs.Bytes.{latch-four}
 use Rattle.graphics_visits.specs.Writes.{stores, storesTo}
 
 -- ---- four tests as four bits
@@ -102,13 +103,6 @@ turn o w b m₀ m k h e = rw (add-one k, e) (go (w k) refl)
     go false eb = laid-skip o w b m₀ k h eb
 
 -- ---- the deed of a write
-
-latch-four : (f : ℕ → ℕ) (p : ℕ) → p < 4 → latch (four f) p ≡ f p
-latch-four f zero h = refl
-latch-four f (suc zero) h = refl
-latch-four f (suc (suc zero)) h = refl
-latch-four f (suc (suc (suc zero))) h = refl
-latch-four f (suc (suc (suc (suc p)))) h = absurd (omega arith)
 
 module _ (w : WriteMode) (r : GraphicsRegisters) (s : Sequencer) (x o v : ℕ) (l : List ℕ) (m : Memory) where
   -- nothing moves where no plane is stored
