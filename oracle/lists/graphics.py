@@ -306,7 +306,7 @@ def every_function():
 
 
 def same_bytes():
-    case("byte 00 stores the latches: over other bytes, then over the same ones, and the pixels are remade there too")
+    case("byte 00 stores the latches: over the same bytes, where the pixels are remade too, then over other bytes")
     fill([3], [1, 2, 4, 8], 0x0E)
     shade(3, 0, 2, 2, (0, 15), (8, 0xFF))
     write(0xA0003, 0, 8, 3)
