@@ -1,5 +1,5 @@
 -- A write's planes: four tests as four bits, bytes laid plane by plane, and the deed of a write from them.
-use Prim.Native.Nat.{ℕ, zero, suc, _+_, _*_, _<_, min}
+use Prim.Native.Nat.{ℕ, suc, _+_, _*_, _<_, min}
 use native.Mathlib.Omega.{arith}
 use native.Mathlib.Numerals.{add-one}
 use mathlib.Core.Path.{_≡_, refl, sym, ap, ap₂, _∙_}
