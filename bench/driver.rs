@@ -15,7 +15,7 @@ pub trait Machine {
     fn sum(&self) -> u64;
 }
 
-pub const ROWS: [&str; 10] = [
+pub const ROWS: [&str; 11] = [
     "loop",
     "mode 0 write",
     "mode 1 write",
@@ -23,6 +23,7 @@ pub const ROWS: [&str; 10] = [
     "mode 3 write",
     "chain-four write",
     "selected-plane read",
+    "chain-four read",
     "compare read",
     "show",
     "mixed: 4 port writes, 2 writes, a read, a show",
@@ -39,9 +40,9 @@ pub fn run<M: Machine>(machine: &mut M, row: usize, turns: usize) -> u64 {
                 machine.write(0xA0000 + offset, turn as u8);
                 0
             }
-            6 | 7 => u64::from(machine.read(0xA0000 + offset)),
-            8 => u64::from(machine.show(offset)),
-            9 => mixed(machine, turn, offset),
+            6..=8 => u64::from(machine.read(0xA0000 + offset)),
+            9 => u64::from(machine.show(offset)),
+            10 => mixed(machine, turn, offset),
             _ => 0,
         };
     }
@@ -70,6 +71,6 @@ fn set<M: Machine>(machine: &mut M, row: usize) {
     machine.set_gc(4, 2);
     machine.write(0xA0000, 0xA5);
     machine.read(0xA0000);
-    machine.set_gc(5, [0, 0, 1, 2, 3, 0, 0, 8, 0, 0][row]);
-    machine.set_seq(4, if row == 5 { 12 } else { 4 });
+    machine.set_gc(5, [0, 0, 1, 2, 3, 0, 0, 0, 8, 0, 0][row]);
+    machine.set_seq(4, if matches!(row, 5 | 7) { 12 } else { 4 });
 }

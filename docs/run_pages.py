@@ -353,6 +353,22 @@ def shaded_bars(piece):
         piece.fails(f"tape/examples/shaded-bar.out has {' '.join(shown)}")
 
 
+def chained_bytes(piece):
+    """Each address's plane and offset by the rule, and the byte that the example tape's first read or peek of it answers."""
+    with open("tape/examples/chain-four.txt") as text, open("tape/examples/chain-four.out") as out:
+        records = [line.split() for line in text if not line.startswith("#")]
+        answers = [line.split()[3] for line in out]
+    first = {}
+    for (name, where, *_), answer in zip(records, answers):
+        if name in ("read", "peek"):
+            first.setdefault(int(where, 16), answer)
+    addresses = [int(address, 16) for address in piece.lines[0].split()[1:]]
+    offsets = [address - 0xA0000 for address in addresses]
+    rule = [[offset % 4 for offset in offsets], [offset - offset % 4 for offset in offsets], [first.get(address) for address in addresses]]
+    if [line.split()[-len(addresses):] for line in piece.lines[1:]] != [[str(number) for number in row] for row in rule]:
+        piece.fails("the rule and tape/examples/chain-four.out have " + "; ".join(" ".join(map(str, row)) for row in rule))
+
+
 # The pieces, in their order: page, how the first line starts, what is done with it.
 PIECES = [
     ("README.md", "./run-tape", "shell", "commands"),
@@ -369,6 +385,8 @@ PIECES = [
     ("README.md", "pixels", found_pixels, "held to the colours drawn"),
     ("README.md", "./run-tape", "shell", "commands"),
     ("README.md", "the label", shaded_bars, "held to the shows of tape/examples/shaded-bar.out"),
+    ("README.md", "./run-tape", "shell", "commands"),
+    ("README.md", "address  ", chained_bytes, "held to the rule and to tape/examples/chain-four.out"),
     ("README.md", "./run-tape", "shell", "commands"),
     ("README.md", "let r = graphics_controller", rattle, "held to the function's name, parameters and answer in crates/graphics_controller/src and crates/machine_types/src"),
     ("README.md", "rt staticlib", "shell", "commands"),

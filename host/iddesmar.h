@@ -8,7 +8,7 @@
 #ifndef IDDESMAR_H
 #define IDDESMAR_H
 
-#define IDDESMAR_VERSION "0.3.0"
+#define IDDESMAR_VERSION "0.4.0"
 
 #if defined(__has_include)
 #if __has_include(<stdint.h>) && __has_include(<stddef.h>)

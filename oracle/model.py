@@ -1,6 +1,6 @@
 #!/usr/bin/env python3
-"""Document 01 once more, bit by bit: reads a list of calls on standard input and prints a line for each, as oracle/README.md says. It
-shares no text with the port; oracle/make-cases makes the expected lines of the lists of cases with it.
+"""Document 01 once more, bit by bit, with write mode 3 as K1 has it and reads under chain-four as K4 has them: reads a list of calls on standard input
+and prints a line for each, as oracle/README.md says. It shares no text with the port; oracle/make-cases makes the expected lines of the lists of cases with it.
 
     oracle/model.py < LIST      takes no argument"""
 import re
@@ -190,16 +190,25 @@ class Model:
     def count(self, which):
         self.gc[COUNTERS + which] = (self.gc[COUNTERS + which] + 1) % 2 ** 32
 
+    def looked_at(self, offset, plane):
+        """The plane that a read or a peek answers from, of the one that it names, and the offset there."""
+        return (offset % 4, offset - offset % 4) if self.chain_four() else (plane, offset)
+
     def cpu_read(self, address, page):
         offset, a0 = self.accepted(address, page)
-        latches = self.gc[LATCHES:COUNTERS] = [self.memory[p][offset] for p in range(4)]
+        select = self.gc[MAP_SELECT]
+        plane, at = self.looked_at(offset, select - select % 2 + a0 if bit(self.gc[MODE], 4) else select)
+        latches = self.gc[LATCHES:COUNTERS] = [self.memory[p][at] for p in range(4)]
         compares = bit(self.gc[MODE], 3)
         self.count(4 + compares)
         if compares:
             cared = [p for p in range(4) if bit(self.gc[DONT_CARE], p)]
             return sum(all(bit(latches[p], i) == bit(self.gc[COMPARE], p) for p in cared) << i for i in range(8))
-        select = self.gc[MAP_SELECT]
-        return latches[select - select % 2 + a0 if bit(self.gc[MODE], 4) else select]
+        return latches[plane]
+
+    def cpu_peek(self, address, page):
+        plane, at = self.looked_at(self.accepted(address, page)[0], 0)
+        return self.memory[plane][at]
 
     def cpu_write(self, address, page, byte):
         offset, a0 = self.accepted(address, page)
@@ -274,7 +283,7 @@ def operations(m):
         (partial(reset, m.gc, GC_START), 0), (lambda: bit(m.gc_field(MISCELLANEOUS), 1), 0), (lambda: int(m.shift_mode() == CHAIN4), 0),
         (m.map_number, 0), (lambda: bit(m.gc_field(MODE), 4), 0), (m.shift_mode, 0), (partial(m.gc_field, ADDRESS), 0),
         (lambda: m.gc[2 + m.gc_field(SELECTED)], 0), (m.write_gc_address, 1), (m.write_gc_data, 1), (m.map_address, 2), (m.cpu_read, 2),
-        (lambda address, page: m.memory[0][m.accepted(address, page)[0]], 2), (m.cpu_write, 3), (m.serialize, 1),
+        (m.cpu_peek, 2), (m.cpu_write, 3), (m.serialize, 1),
         (m.put_gc_field, 2), (m.put_seq_field, 2), (m.put_byte, 3), (m.put_length, 2),
     ]
 

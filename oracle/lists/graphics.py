@@ -99,7 +99,7 @@ def reads():
             of_mode(mode, (4, select))
             read(0xA0000)
             read(0xA0001)
-    case("a compare read with GC odd/even, and reads with chain-four: at the offset as it stands")
+    case("a compare read with GC odd/even, and a read and a peek with chain-four: plane 1 at offset 0")
     of_mode(0x18, (2, 3), (7, 15))
     read(0xA0001)
     masked(15, 12)
@@ -339,4 +339,103 @@ def refused_bars():
     call(DIGEST)
 
 
-PARTS = ports, addresses, modes, reads, masks, counters, outside, shows, refusals, lengths, orders, bit_14, one_plane, mode_3
+# planes 0 to 3 of K4's worked example at 4 and 5, and others at 6 and 7
+COLOURS = {4: [0x10, 0x11, 0x12, 0x13], 5: [0xF0, 0xCC, 0xAA, 0x00], 6: [0x21, 0x22, 0x24, 0x28], 7: [0x0F, 0x33, 0x55, 0xFF]}
+# Miscellaneous, the addresses that lead to offset 0: each window, those at A0000 with chain odd/even and without
+WINDOWS = [(4, [0xA0000]), (6, [0xA0000]), (0, [0xA0000, 0xB0000]), (2, [0xA0000, 0xB0000]), (14, [0xB8000])]
+# Mode and more: a selected-plane read of map select 2, with GC odd/even too; a compare read of colour 3 over all planes, with GC odd/even
+READS = [(0, (4, 2)), (0x10, (4, 2)), (0x18, (2, 3), (7, 15))]
+
+
+def coloured():
+    for at, planes in COLOURS.items():
+        fill([at], planes, 0x0E)
+
+
+def look(address, page=0):
+    calls((38, address, page), (39, address, page), (DIGEST,))
+
+
+def chain_four():
+    """It comes last, so that older lines keep their numbers. Nothing after it looks at offsets from 2 on."""
+    lend_all(8)
+    coloured()
+    case("10 11 12 13 at 4, F0 CC AA 00 at 5, map select 2, A0005. Memory Mode 12, then 8: a read and a peek of 11, latches 10 11 12 13; then 4 and 0: AA, F0, latches F0 CC AA 00")
+    for memory_mode in 12, 8, 4, 0:
+        masked(15, memory_mode)
+        of_mode(0, (4, 2))
+        look(0xA0005)
+    for memory_mode in 12, 8:
+        masked(15, memory_mode)
+        every_window(memory_mode)
+        every_select(memory_mode)
+        copied(memory_mode)
+        at_the_end(memory_mode)
+    direct_reads()
+
+
+def every_window(memory_mode):
+    for mode, *pairs in READS:
+        registers = ", ".join(f"{byte} in register {register}" for register, byte in pairs)
+        for miscellaneous, firsts in WINDOWS:
+            case(f"Memory Mode {memory_mode}, Mode {mode}, {registers}, Miscellaneous {miscellaneous}: each pair of low bits, both pages")
+            of_mode(mode, (6, miscellaneous), *pairs)
+            for first in firsts:
+                each_low_bits(first)
+    for plane in range(4):
+        case(f"Memory Mode {memory_mode}, a compare read of colour 3 over plane {plane} alone: each pair of low bits, both pages")
+        of_mode(8, (2, 3), (7, 1 << plane))
+        each_low_bits(0xA0000)
+
+
+def each_low_bits(first):
+    for at in range(4, 8):
+        look(first + at)
+        look(first + at, 1)
+
+
+def every_select(memory_mode):
+    case(f"Memory Mode {memory_mode}, each map select, with GC odd/even and without: A0005 and A0006 are planes 1 and 2 at 4")
+    for mode in 0x00, 0x10:
+        for select in range(4):
+            of_mode(mode, (4, select))
+            look(0xA0005)
+            look(0xA0006)
+
+
+def copied(memory_mode):
+    case(f"Memory Mode {memory_mode}, write mode 1: A0007 is read, which loads 10 11 12 13, and each of A0002 to A0005 written; then A0005 is read back, after FF was written there")
+    of_mode(1)
+    call(38, 0xA0007, 0)
+    for at in range(2, 6):
+        write(0xA0000 + at, 0xFF, 8, at - at % 4)
+    of_mode(0, (8, 0xFF))
+    write(0xA0005, 0xFF, 8, 4)
+    look(0xA0005)
+    coloured()
+
+
+def at_the_end(memory_mode):
+    for n in 5, 6, 7:
+        case(f"Memory Mode {memory_mode}, n {n}: offset {n - 1} is read at 4; offset {n} is refused, though 4 is within")
+        lend_all(n)
+        of_mode(0)
+        look(0xA0000 + n - 1)
+        look(0xA0000 + n)
+        call(40, 0xA0000 + n, 0, 0x5A)
+        of_mode(8, (7, 15))
+        look(0xA0000 + n - 1)
+        look(0xA0000 + n)
+    lend_all(8)
+
+
+def direct_reads():
+    case("Memory Mode 12, then 8: direct plane reads of plane 2 at 5 and shows keep plane and offset; gc_read_u8 as the Rust's text")
+    of_mode(0)
+    call(10, 5)
+    for memory_mode in 12, 8:
+        masked(15, memory_mode)
+        calls((1, 2, 5), (2, 2, 5), (3, 5), (4, 40), (5, 5), (19, 2, 5, 1), (20, 2, 5, 1), (21, 2, 5, 1), (22, 40), (23, 5), (41, 5), (DIGEST,))
+
+
+PARTS = ports, addresses, modes, reads, masks, counters, outside, shows, refusals, lengths, orders, bit_14, one_plane, mode_3, chain_four

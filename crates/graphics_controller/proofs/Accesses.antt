@@ -23,9 +23,9 @@ use Rattle.machine_types.specs.declared.shape.Shape.{Shape}
 use Rattle.machine.specs.Memory.{Memory, shape, sound}
 use Rattle.machine.specs.Answers.{refusalNumber, Value, one, two, blank, Said, said, part, Outcome, outcome, answered, mappedSaid}
 use Rattle.machine.specs.Graphics.{fitsGc, memoryMap, chained, oddEven, isOddEven, readMode, writeMode, shiftMode, gcOf}
-use Rattle.machine.specs.Sequencer.{fitsSeq}
+use Rattle.machine.specs.Sequencer.{fitsSeq, chainFour, storedAt, answersFrom}
 use Rattle.machine.specs.Address.{inWindow, a0, mapped, offset}
-use Rattle.machine.specs.DataPath.{selectedPlane}
+use Rattle.machine.specs.DataPath.{mapSelected, selectedPlane, peekedPlane}
 use Rattle.machine.specs.Deeds.{byte, latch, loaded, latchesAfter, memoryAfter, valueOf}
 use Rattle.machine.specs.Calls.{refuse, fitsBoth, accessNumber, shows, showNumber, CpuPlan, counted, readCounter, writeCounter, readReply, writeDeed, cpuPlan, cpuRead, cpuPeek, cpuWrite, serialize}
 use Rattle.machine.specs.Step.{device, lifted, cpuPerform, cpuStep}
@@ -114,17 +114,33 @@ module _ (a : CpuPlan) (g : GraphicsController) (m : Memory) where
       → outcome (said 0 v) (device g′ m′) ≡ cpuPerform a g m
   cpu-done g′ m′ v e eg em ev = rw (eg, em, ev, ← e)
 
--- ---- a read
+-- ---- the plane that a read or a peek answers from is one of four
 
--- a selected plane is one of four
-pub select-small : (r : GraphicsRegisters) (x : ℕ) → r .«read_map_select» ≤ 3 → selectedPlane r x ≤ 3
-unfolding selectedPlane
-select-small r x h = go (isOddEven (oddEven r)) (a0 x)
+answers-small : (s : Sequencer) (o p : ℕ) → p ≤ 3 → answersFrom s o p ≤ 3
+unfolding answersFrom
+answers-small s o p h = go (chainFour s)
+  where
+    go : (b : Bool) → pick b (o % 4) p ≤ 3
+    go true = omega arith
+    go false = h
+
+map-select-small : (r : GraphicsRegisters) (x : ℕ) → r .«read_map_select» ≤ 3 → mapSelected r x ≤ 3
+map-select-small r x h = go (isOddEven (oddEven r)) (a0 x)
   where
     go : (b c : Bool) → pick b (r .«read_map_select» / 2 * 2 + bitOf c) (r .«read_map_select») ≤ 3
     go true true = omega arith
     go true false = omega arith
     go false c = h
+
+pub select-small : (r : GraphicsRegisters) (s : Sequencer) (x o : ℕ) → r .«read_map_select» ≤ 3 → selectedPlane r s x o ≤ 3
+unfolding selectedPlane
+select-small r s x o h = answers-small s o (mapSelected r x) (map-select-small r x h)
+
+pub peeked-small : (s : Sequencer) (o : ℕ) → peekedPlane s o ≤ 3
+unfolding peekedPlane
+peeked-small s o = answers-small s o 0 (omega arith)
+
+-- ---- a read
 
 loaded-at : (m : Memory) (o p : ℕ) → p ≤ 3 → latch (loaded m o) p ≡ byte m p o
 unfolding loaded
@@ -135,17 +151,17 @@ loaded-at m o (suc (suc (suc zero))) h = refl
 loaded-at m o (suc (suc (suc (suc p)))) h = absurd (omega arith)
 
 -- from the latches just loaded the answer is the machine's
-pub read-value : (w : ReadMode) (r : GraphicsRegisters) (m : Memory) (o x : ℕ) → r .«read_map_select» ≤ 3
-    → one (readByte w r x (loaded m o)) ≡ valueOf (readReply w r x o) (loaded m o) m
+pub read-value : (w : ReadMode) (r : GraphicsRegisters) (s : Sequencer) (m : Memory) (o x : ℕ) → r .«read_map_select» ≤ 3
+    → one (readByte w r s x o (loaded m (storedAt s o))) ≡ valueOf (readReply w r s x o) (loaded m (storedAt s o)) m
 unfolding readByte readReply valueOf
-read-value ReadSelectedPlane r m o x h = ap one (loaded-at m o (selectedPlane r x) (select-small r x h))
-read-value ReadComparedPlanes r m o x h = refl
+read-value ReadSelectedPlane r s m o x h = ap one (loaded-at m (storedAt s o) (selectedPlane r s x o) (select-small r s x o h))
+read-value ReadComparedPlanes r s m o x h = refl
 
 -- a refused read answers 0
-pub read-blank : (w : ReadMode) (r : GraphicsRegisters) (x o : ℕ) (l : List ℕ) (m : Memory) → one 0 ≡ blank (valueOf (readReply w r x o) l m)
+pub read-blank : (w : ReadMode) (r : GraphicsRegisters) (s : Sequencer) (x o : ℕ) (l : List ℕ) (m : Memory) → one 0 ≡ blank (valueOf (readReply w r s x o) l m)
 unfolding readReply valueOf
-read-blank ReadSelectedPlane r x o l m = refl
-read-blank ReadComparedPlanes r x o l m = refl
+read-blank ReadSelectedPlane r s x o l m = refl
+read-blank ReadComparedPlanes r s x o l m = refl
 
 -- ---- the four calls
 
@@ -158,28 +174,28 @@ module _ (g : GraphicsController) (s : Sequencer) (m : Memory) (x : ℕ) (page :
 
   pub read-refused : (k : ℕ) → 0 < k → k ≡ number → outcome (said k (one 0)) (device g m) ≡ cpuStep g s m (cpuRead x page)
   unfolding cpuStep cpuPlan
-  read-refused k h e = cpu-refused (cpuPlan (g .registers) s (shape m) (cpuRead x page)) g m k (one 0) h e (read-blank (readMode (g .registers)) (g .registers) x at _ _)
+  read-refused k h e = cpu-refused (cpuPlan (g .registers) s (shape m) (cpuRead x page)) g m k (one 0) h e (read-blank (readMode (g .registers)) (g .registers) s x at _ _)
 
   -- latches loaded, one counter raised, and the answer from them
-  pub read-done : (o : ℕ) (l : List ℕ) (a : Said) (g′ : GraphicsController) → 0 ≡ number → o ≡ at → l ≡ loaded m o
-      → outcome a g′ ≡ outcome (said 0 (one (readByte (readMode (g .registers)) (g .registers) x l))) (gcOf (g .registers) (counted (readCounter (readMode (g .registers))) (g .stats)) l)
+  pub read-done : (o t : ℕ) (l : List ℕ) (a : Said) (g′ : GraphicsController) → 0 ≡ number → o ≡ at → t ≡ storedAt s o → l ≡ loaded m t
+      → outcome a g′ ≡ outcome (said 0 (one (readByte (readMode (g .registers)) (g .registers) s x o l))) (gcOf (g .registers) (counted (readCounter (readMode (g .registers))) (g .stats)) l)
       → outcome a (device g′ m) ≡ cpuStep g s m (cpuRead x page)
   unfolding cpuStep cpuPlan latchesAfter memoryAfter
-  read-done o l a g′ e eo el ea =
+  read-done o t l a g′ e eo et el ea =
       let f : g .registers .«read_map_select» ≤ 3 = map-select-fits (g .registers) (access-fits (g .registers) s (shape m) x page e .0) in
-      let v : l ≡ loaded m at = el ∙ ap (loaded m) eo in
+      let v : l ≡ loaded m (storedAt s at) = el ∙ ap (loaded m) (et ∙ ap (storedAt s) eo) in
       ap (lifted (λ (g : GraphicsController). device g m)) ea
       ∙ cpu-done (cpuPlan (g .registers) s (shape m) (cpuRead x page)) g m _ m _ e
       (ap (gcOf (g .registers) (counted (readCounter (readMode (g .registers))) (g .stats))) v) refl
-      (rw v (read-value (readMode (g .registers)) (g .registers) m at x f))
+      (rw (v, eo) (read-value (readMode (g .registers)) (g .registers) s m at x f))
 
   pub peek-refused : (k : ℕ) → 0 < k → k ≡ number → outcome (said k (one 0)) (device g m) ≡ cpuStep g s m (cpuPeek x page)
   unfolding cpuStep cpuPlan valueOf
   peek-refused k h e = cpu-refused (cpuPlan (g .registers) s (shape m) (cpuPeek x page)) g m k (one 0) h e refl
 
-  pub peek-done : (o : ℕ) → 0 ≡ number → o ≡ at → outcome (said 0 (one (getD (m .p0) o 0))) (device g m) ≡ cpuStep g s m (cpuPeek x page)
+  pub peek-done : (o p t b : ℕ) → 0 ≡ number → o ≡ at → p ≡ peekedPlane s o → t ≡ storedAt s o → b ≡ byte m p t → outcome (said 0 (one b)) (device g m) ≡ cpuStep g s m (cpuPeek x page)
   unfolding cpuStep cpuPlan counted latchesAfter memoryAfter valueOf
-  peek-done o e eo = cpu-done (cpuPlan (g .registers) s (shape m) (cpuPeek x page)) g m g m (one (getD (m .p0) o 0)) e refl refl (ap (λ (o : ℕ). one (getD (m .p0) o 0)) eo)
+  peek-done o p t b e eo ep et eb = cpu-done (cpuPlan (g .registers) s (shape m) (cpuPeek x page)) g m g m (one b) e refl refl (rw (eb, ep, et, eo))
 
   pub write-refused : (v k : ℕ) → 0 < k → k ≡ number → outcome (said k (one 0)) (device g m) ≡ cpuStep g s m (cpuWrite x page v)
   unfolding cpuStep cpuPlan valueOf

@@ -11,6 +11,7 @@ ghost use Rattle.machine.specs.Step.{device, cpuStep};
 ghost use Rattle.graphics_controller.specs.Reads.{readByte};
 use graphics_paths::counted_read;
 use graphics_paths::counted_write;
+use graphics_paths::peeked_plane;
 use graphics_paths::pixel_op_compare;
 use graphics_paths::selected_plane;
 use graphics_visits::inner::write_planes;
@@ -27,6 +28,8 @@ use machine_types::StoreAnswer;
 use refusals_access::judge_address;
 use refusals_memory::shaped;
 use refusals_records::fits_both;
+use sequencer_masks::inner::stored_at;
+use vram_planes::inner::byte as plane_byte;
 
 // The four planes' bytes at an offset.
 fn load(p0: &[u8], p1: &[u8], p2: &[u8], p3: &[u8], picture: &[u8], at: usize) -> [u8; 4]
@@ -36,14 +39,21 @@ fn load(p0: &[u8], p1: &[u8], p2: &[u8], p3: &[u8], picture: &[u8], at: usize) -
     [p0[at], p1[at], p2[at], p3[at]]
 }
 
-// What a read answers from the latches that it loaded.
-fn read_byte(mode: ReadMode, registers: GraphicsRegisters, latches: [u8; 4], address: usize) -> u8
+// What a read of an address, which leads to an offset, answers from the latches that it loaded.
+fn read_byte(
+    mode: ReadMode,
+    registers: GraphicsRegisters,
+    seq: Sequencer,
+    latches: [u8; 4],
+    address: usize,
+    offset: usize,
+) -> u8
     requires { ⌜ registers .«read_map_select» ≤ 3 ⌝ }
-    ensures { λ r. ⌜ r ≡ readByte mode registers address latches ⌝ }
+    ensures { λ r. ⌜ r ≡ readByte mode registers seq address offset latches ⌝ }
 {
     match mode {
         ReadMode::ReadSelectedPlane => {
-            let plane = selected_plane(registers, address);
+            let plane = selected_plane(registers, seq, address, offset);
             latches[plane]
         }
         ReadMode::ReadComparedPlanes => {
@@ -53,14 +63,20 @@ fn read_byte(mode: ReadMode, registers: GraphicsRegisters, latches: [u8; 4], add
 }
 
 // The answer of an accepted read, from the latches that it loaded: its mode's counter goes up, registers stay.
-fn read_done(gc: GraphicsController, latches: [u8; 4], address: usize) -> CpuByte
+fn read_done(
+    gc: GraphicsController,
+    seq: Sequencer,
+    latches: [u8; 4],
+    address: usize,
+    offset: usize,
+) -> CpuByte
     requires { ⌜ gc .registers .«read_map_select» ≤ 3 ⌝ }
     ensures { λ r. ⌜ outcome (byteSaid (r .answer)) (r .gc)
-        ≡ outcome (said 0 (one (readByte (readMode (gc .registers)) (gc .registers) address latches))) (gcOf (gc .registers) (counted (readCounter (readMode (gc .registers))) (gc .stats)) latches) ⌝ }
+        ≡ outcome (said 0 (one (readByte (readMode (gc .registers)) (gc .registers) seq address offset latches))) (gcOf (gc .registers) (counted (readCounter (readMode (gc .registers))) (gc .stats)) latches) ⌝ }
 {
     let registers = gc.registers;
     let mode = fields::gc::read_mode(registers);
-    let byte = read_byte(mode, registers, latches, address);
+    let byte = read_byte(mode, registers, seq, latches, address, offset);
     let stats = counted_read(mode, gc.stats);
     let next = GraphicsController {
         registers,
@@ -73,7 +89,7 @@ fn read_done(gc: GraphicsController, latches: [u8; 4], address: usize) -> CpuByt
     }
 }
 
-// A read by the processor: it loads all four latches, whichever plane is asked for.
+// A read by the processor: it loads all four latches, whichever plane is asked for, under chain-four at the offset with its low two bits clear.
 pub fn cpu_read_u8(
     gc: GraphicsController,
     seq: Sequencer,
@@ -98,15 +114,16 @@ pub fn cpu_read_u8(
             answer: ByteAnswer::Refused(x),
             gc,
         },
-        MappedAnswer::Done(offset, _) => {
-            let at = offset.0;
+        MappedAnswer::Done(found, _) => {
+            let offset = found.0;
+            let at = stored_at(seq, offset);
             let latches = load(p0, p1, p2, p3, picture, at);
-            read_done(gc, latches, address)
+            read_done(gc, seq, latches, address, offset)
         }
     }
 }
 
-// Plane 0's byte; no latch and no counter moves.
+// Plane 0's byte, or under chain-four that of plane offset mod 4, at the offset with its low two bits clear; no latch and no counter moves.
 pub fn cpu_peek_u8(
     gc: GraphicsController,
     seq: Sequencer,
@@ -128,9 +145,11 @@ pub fn cpu_peek_u8(
     let chain = fields::gc::chain_odd_even(registers);
     match judge_address(fits, good, map, chain, shape.p0, address, page) {
         MappedAnswer::Refused(x) => ByteAnswer::Refused(x),
-        MappedAnswer::Done(offset, _) => {
-            let at = offset.0;
-            ByteAnswer::Done(p0[at])
+        MappedAnswer::Done(found, _) => {
+            let offset = found.0;
+            let plane = peeked_plane(seq, offset);
+            let at = stored_at(seq, offset);
+            ByteAnswer::Done(plane_byte(p0, p1, p2, p3, picture, plane, at))
         }
     }
 }

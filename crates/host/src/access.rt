@@ -66,7 +66,7 @@ pub extern "C" fn iddesmar_gc_cpu_write_u8(
     w.answer
 }
 
-// Plane 0's byte; nothing moves.
+// Plane 0's byte, or under chain-four that of plane offset mod 4; nothing moves.
 #[no_mangle]
 pub extern "C" fn iddesmar_gc_cpu_peek_u8(
     gc: ControllerRecord,

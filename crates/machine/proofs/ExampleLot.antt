@@ -1,13 +1,13 @@
--- A second run, with k as 0: two labels that differ in the lot, plane 0, and a reader that leaves it out. What each run answers is computed. Then what the premise
--- leaves out: each question that can be put to plane 0, the peek among them, is answered differently by the two.
+-- A second run, with k as 0: two labels that differ in the lot, plane 0, and a reader that leaves it out, with peeks under chain-four that answer from another plane.
+-- What each run answers is computed. Then what the premise leaves out: each question that can be put to plane 0, its peeks among them, is answered differently by the two.
 use Prim.Native.Nat.{ℕ}
 use native.Mathlib.Omega.{arith}
 use mathlib.Core.Path.{_≡_, refl}
-use mathlib.Core.Bool.{Bool, false}
+use mathlib.Core.Bool.{false}
 use mathlib.Core.List.{List, [], _∷_, _++_}
 use lib.ListN.{getD, replicate}
 use Rattle.machine.specs.Memory.{mem}
-use Rattle.machine.specs.Answers.{Said}
+use Rattle.machine.specs.Answers.{one, Said, said}
 use Rattle.machine.specs.Calls.{readU8, peekU8, readGlyph, readLinear, seqCpuReadU8, seqPeekU8, seqGcReadU8, cpuRead, cpuPeek, cpuWrite, serialize}
 use Rattle.machine.specs.Step.{State, Call, vram, direct, cpu}
 use Rattle.machine.specs.Isolation.{Alike, Obeys, Along, Throughout, Asked, asksPeek}
@@ -59,7 +59,15 @@ lotCalls =
     ∷ vram (peekU8 1 0)
     ∷ vram (readGlyph 0)
     ∷ direct (seqGcReadU8 2 1 false)
-    ∷ []))))))))))))
+    -- chain-four: A0001 is plane 1's, though map select is 0. Refused peeks, past the planes and outside the window, would be plane 0's
+    ∷ (seqTo 4 8
+    ++ (gcTo 5 0
+    ++ (gcTo 4 0
+    ++ (cpu (cpuRead 0xA0001 false)
+    ∷ cpu (cpuPeek 0xA0001 false)
+    ∷ cpu (cpuPeek 0xA0004 false)
+    ∷ cpu (cpuPeek 0xB0000 false)
+    ∷ []))))))))))))))))
 
 -- ---- what is answered, and what is left: plane 0 differs and changes
 
@@ -70,7 +78,15 @@ lotSays eight first =
     ++ (aNumber 0xAA
     ∷ (replicate 5 (aNumber 0)
     ++ (aNumber 0x75
-    ∷ (replicate 6 (aNumber 0) ++ (aNumber 0x05 ∷ aShow eight ∷ aPixel first ∷ aNumber 0x75 ∷ aNumber 0xCC ∷ aNumber 0xAA ∷ aNumber 0xA5 ∷ [])))))
+    ∷ (replicate 6 (aNumber 0)
+    ++ (aNumber 0x05
+    ∷ aShow eight
+    ∷ aPixel first
+    ∷ aNumber 0x75
+    ∷ aNumber 0xCC
+    ∷ aNumber 0xAA
+    ∷ aNumber 0xA5
+    ∷ (replicate 6 (aNumber 0) ++ (aNumber 0xCC ∷ aNumber 0xCC ∷ said 3 (one 0) ∷ said 2 (one 0) ∷ [])))))))
 
 early-says : computed early lotCalls .answers ≡ lotSays (6 ∷ 10 ∷ 12 ∷ 8 ∷ 0 ∷ 15 ∷ 0 ∷ 15 ∷ []) 0
 unfolding early lotCalls lotSays computed
@@ -105,21 +121,41 @@ lot-together = isolation 0 lotCalls early late lot-alike lot-obeyed
 
 -- ---- what is left out
 
--- every question that plane 0 can be asked, after that run: direct plane reads, the peek, a compare read with its Don't Care bit set, a selected-plane read
+-- every question that plane 0 can be asked, after that run
 questions : List Call
-unfolding gcTo
+unfolding gcTo seqTo
 questions =
-    (vram (readU8 0 0) ∷ vram (peekU8 0 0) ∷ direct (seqCpuReadU8 0 0 false) ∷ direct (seqPeekU8 0 0 false) ∷ direct (seqGcReadU8 0 0 false) ∷ cpu (cpuPeek 0xA0000 false) ∷ [])
-    ++ (gcTo 7 1 ++ ((cpu (cpuRead 0xA0000 false) ∷ []) ++ (gcTo 5 0 ++ (gcTo 4 0 ++ (cpu (cpuRead 0xA0000 false) ∷ [])))))
+    -- direct plane reads
+    vram (readU8 0 0)
+    ∷ vram (peekU8 0 0)
+    ∷ direct (seqCpuReadU8 0 0 false)
+    ∷ direct (seqPeekU8 0 0 false)
+    ∷ direct (seqGcReadU8 0 0 false)
+    -- under chain-four a peek and a selected-plane read of A0000, map select 2
+    ∷ cpu (cpuPeek 0xA0000 false)
+    ∷ (gcTo 4 2
+    ++ (cpu (cpuRead 0xA0000 false)
+    -- with chain-four clear a peek of A0001, a compare read with plane 0's Don't Care bit set, a selected-plane read with map select 0
+    ∷ (seqTo 4 4
+    ++ (cpu (cpuPeek 0xA0001 false)
+    ∷ (gcTo 5 8 ++ (gcTo 7 1 ++ (cpu (cpuRead 0xA0000 false) ∷ (gcTo 5 0 ++ (gcTo 4 0 ++ (cpu (cpuRead 0xA0000 false) ∷ []))))))))))
 
-early-told : computed (computed early lotCalls .final) questions .answers ≡ replicate 6 (aNumber 0x0F) ++ (replicate 2 (aNumber 0) ++ (aNumber 0xF0 ∷ (replicate 4 (aNumber 0) ++ (aNumber 0x0F ∷ []))))
-unfolding early lotCalls questions computed
+-- what is told: plane 0's two bytes, and where its first is 0
+lotTold : ℕ → ℕ → ℕ → List Said
+lotTold first second clear =
+    replicate 6 (aNumber first)
+    ++ (replicate 2 (aNumber 0)
+    ++ (aNumber first ∷ (replicate 2 (aNumber 0) ++ (aNumber second ∷ (replicate 4 (aNumber 0) ++ (aNumber clear ∷ (replicate 4 (aNumber 0) ++ (aNumber first ∷ []))))))))
+
+early-told : computed (computed early lotCalls .final) questions .answers ≡ lotTold 0x0F 0x05 0xF0
+unfolding early lotCalls questions lotTold computed
 early-told = refl
 
-late-told : computed (computed late lotCalls .final) questions .answers ≡ replicate 6 (aNumber 0xF0) ++ (replicate 2 (aNumber 0) ++ (aNumber 0x0F ∷ (replicate 4 (aNumber 0) ++ (aNumber 0xF0 ∷ []))))
-unfolding late lotCalls questions computed
+late-told : computed (computed late lotCalls .final) questions .answers ≡ lotTold 0xF0 0xF5 0x0F
+unfolding late lotCalls questions lotTold computed
 late-told = refl
 
--- a peek asks of plane 0, in every state
-peek-asked : (s : State) (x : ℕ) (page : Bool) → Asked 0 s (cpu (cpuPeek x page))
-peek-asked s x page = asksPeek refl
+-- so the peek of A0000 under chain-four is one of the questions; the run has the one of A0001, and keeps the premise
+peek-asked : Asked 0 (computed early lotCalls .final) (cpu (cpuPeek 0xA0000 false))
+unfolding early lotCalls computed
+peek-asked = asksPeek refl refl

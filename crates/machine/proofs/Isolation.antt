@@ -30,7 +30,7 @@ use Rattle.machine.specs.Calls.{CpuCall, cpuRead, cpuPeek, cpuWrite, ser
 use Rattle.machine.specs.Step.{vramStep, sequencerStep, directStep, graphicsStep, Device, device, cpuAfter, cpuPerform, cpuStep, State, Call, vram, sequencer}
 use Rattle.machine.specs.Step.{direct, graphics, cpu, lifted, step}
 use Rattle.machine.specs.Isolation.{Agree, Both, none, more, AlikeMemory, AlikeLatches, AlikeGc, Alike, vramNotFrom, directNotFrom, selectedNotFrom, cpuNotFrom}
-use Rattle.machine.specs.Isolation.{NotFrom, comparedWithout, cpuWithout, ComparesWithout, cpuNoPeek, NoPeek, Obeys, ObeysAccepted, Along}
+use Rattle.machine.specs.Isolation.{NotFrom, comparedWithout, cpuWithout, ComparesWithout, cpuNoPeek, NoPeek, Obeys, Along}
 use Rattle.machine.specs.Isolation.{AlikeValue, same, pixels, parts, Together, Throughout}
 use Rattle.machine.proofs.Laws.{answered-number}
 
@@ -369,19 +369,19 @@ module _ (k : ℕ) where
   direct-silent s h (seqPlaneAnd p o a x) n = tt
   direct-silent s h (seqPlaneOr p o a x) n = tt
 
-  read-silent : (d : ReadMode) (r : GraphicsRegisters) (x o : ℕ) → selectedNotFrom k d r x → comparedWithout k d r → Silent k (readReply d r x o)
+  read-silent : (d : ReadMode) (r : GraphicsRegisters) (s : Sequencer) (x o : ℕ) → selectedNotFrom k d r s x o → comparedWithout k d r → Silent k (readReply d r s x o)
   unfolding selectedNotFrom comparedWithout readReply Silent
-  read-silent ReadSelectedPlane r x o n w = n
-  read-silent ReadComparedPlanes r x o n w = w
+  read-silent ReadSelectedPlane r s x o n w = n
+  read-silent ReadComparedPlanes r s x o n w = w
 
-  cpu-silent : (r : GraphicsRegisters) (s : Sequencer) (h : Shape) (c : CpuCall) → cpuNotFrom k r c → cpuWithout k r c → cpuNoPeek k c → Silent k (cpuPlan r s h c .ask .reply)
+  cpu-silent : (r : GraphicsRegisters) (s : Sequencer) (h : Shape) (c : CpuCall) → cpuNotFrom k r s c → cpuWithout k r c → cpuNoPeek k r s c → Silent k (cpuPlan r s h c .ask .reply)
   unfolding cpuNotFrom cpuWithout cpuNoPeek cpuPlan Silent
-  cpu-silent r s h (cpuRead x page) n w p = read-silent (readMode r) r x (offset r x page) n w
+  cpu-silent r s h (cpuRead x page) n w p = read-silent (readMode r) r s x (offset r x page) n w
   cpu-silent r s h (cpuPeek x page) n w p = p
   cpu-silent r s h (cpuWrite x page v) n w p = tt
   cpu-silent r s h (serialize o) n w p = tt
 
-  permitted : (s : State) (c : Call) → ObeysAccepted k s c → Permitted s c
+  permitted : (s : State) (c : Call) → Obeys k s c → Permitted s c
   unfolding Permitted NotFrom ComparesWithout NoPeek step vramStep directStep cpuStep perform
   permitted s (vram c) o = λ z. vram-silent (shape (s .memory)) c (o .reads (sym (answered-number _ _ _ _) ∙ z))
   permitted s (sequencer c) o = tt
@@ -393,19 +393,10 @@ module _ (k : ℕ) where
 
 -- ---- demand 3
 
--- with peeks that are refused let through: the stronger theorem
-pub isolation-accepted : (k : ℕ) (cs : List Call) (s t : State) → Alike k s t → Along (ObeysAccepted k) s cs → Throughout k s t cs
-unfolding Throughout Along
-isolation-accepted k [] s t a h = a
-isolation-accepted k (c ∷ cs) s t a h =
-    let o = step-together k s t a c (permitted k s c (h .0)) in
-    (a, o, isolation-accepted k cs (step s c .next) (step t c .next) (o .next) (h .1))
-
-along : (k : ℕ) (cs : List Call) (s : State) → Along (Obeys k) s cs → Along (ObeysAccepted k) s cs
-unfolding Along
-along k [] s h = tt
-along k (c ∷ cs) s h = (record { reads = h .0 .reads; compares = h .0 .compares; peeks = λ z. h .0 .peeks }, along k cs (step s c .next) (h .1))
-
--- in the mission's words
+-- in the mission's words, with K4's on peeks
 pub isolation : (k : ℕ) (cs : List Call) (s t : State) → Alike k s t → Along (Obeys k) s cs → Throughout k s t cs
-isolation k cs s t a h = isolation-accepted k cs s t a (along k cs s h)
+unfolding Throughout Along
+isolation k [] s t a h = a
+isolation k (c ∷ cs) s t a h =
+    let o = step-together k s t a c (permitted k s c (h .0)) in
+    (a, o, isolation k cs (step s c .next) (step t c .next) (o .next) (h .1))

@@ -15,6 +15,7 @@ pub mod AlikeStates
 pub mod EveryKind
 pub mod Example
 pub mod ExampleLot
+pub mod ExampleChain
 pub mod DataPath
 pub mod RegisterRules
 pub mod DirectRules

@@ -3,7 +3,7 @@
 use Prim.Native.Nat.{ℕ, zero, suc, _<_}
 use native.Mathlib.Omega.{arith}
 use mathlib.Core.Path.{_≡_, refl, sym, _∙_}
-use mathlib.Core.Bool.{Bool, true, _&&_, not}
+use mathlib.Core.Bool.{Bool, true, false, _&&_, _||_, not}
 use mathlib.Core.List.{List, [], _∷_}
 use lib.Dec.{eqb}
 use borrow.Author.Tests.{eqb-true, eqb-false, not-true}
@@ -13,6 +13,7 @@ use Rattle.machine_types.specs.declared.gc.ReadMode.{ReadMode}
 use Rattle.machine_types.specs.declared.gc.ReadMode.the-variants.{ReadSelectedPlane, ReadComparedPlanes}
 use Rattle.machine.specs.Memory.{shape}
 use Rattle.machine.specs.Graphics.{readMode}
+use Rattle.machine.specs.Address.{offset}
 use Rattle.machine.specs.Deeds.{Reply, known, byteAt, compare, pixelAt, pixelsAt}
 use Rattle.machine.specs.Calls.{VramCall, readU8, peekU8, readGlyph, readLinear, serializeLinear, writeU8, planeSet, planeAnd, planeOr, deplane, vramPlan}
 use Rattle.machine.specs.Calls.{DirectCall, seqCpuReadU8, seqPeekU8, seqGcReadU8, seqReadLinear, seqSerializeLinear, seqPlaneSet, seqPlaneAnd, seqPlaneOr, directPlan}
@@ -52,7 +53,7 @@ module _ (k : ℕ) (s : State) where
 
   -- a selected-plane read and a compare read, by the read mode
   module _ (x : ℕ) (page : Bool) (n : Asked k s (cpu (cpuRead x page)) → ⊥) (a : accepted s (cpu (cpuRead x page))) where
-    selects : (d : ReadMode) → readMode (s .gc .registers) ≡ d → selectedNotFrom k d (s .gc .registers) x
+    selects : (d : ReadMode) → readMode (s .gc .registers) ≡ d → selectedNotFrom k d (s .gc .registers) (s .seq) x (offset (s .gc .registers) x page)
     unfolding selectedNotFrom
     selects ReadSelectedPlane e = λ f. n (asksSelected e f a)
     selects ReadComparedPlanes e = tt
@@ -69,18 +70,18 @@ module _ (k : ℕ) (s : State) where
 
   cpu-asks : (c : CpuCall) → (Asked k s (cpu c) → ⊥) → Obeys k s (cpu c)
   unfolding NotFrom cpuNotFrom ComparesWithout cpuWithout NoPeek cpuNoPeek
-  cpu-asks (cpuRead x page) n = record { reads = λ a. selects x page n a _ refl; compares = λ a. compares x page n a _ refl; peeks = tt }
-  cpu-asks (cpuPeek x page) n = record { reads = λ a. tt; compares = λ a. tt; peeks = λ e. n (asksPeek e) }
-  cpu-asks (cpuWrite x page v) n = record { reads = λ a. tt; compares = λ a. tt; peeks = tt }
-  cpu-asks (serialize o) n = record { reads = λ a. tt; compares = λ a. tt; peeks = tt }
+  cpu-asks (cpuRead x page) n = record { reads = λ a. selects x page n a _ refl; compares = λ a. compares x page n a _ refl; peeks = λ a. tt }
+  cpu-asks (cpuPeek x page) n = record { reads = λ a. tt; compares = λ a. tt; peeks = λ a e. n (asksPeek e a) }
+  cpu-asks (cpuWrite x page v) n = record { reads = λ a. tt; compares = λ a. tt; peeks = λ a. tt }
+  cpu-asks (serialize o) n = record { reads = λ a. tt; compares = λ a. tt; peeks = λ a. tt }
 
 -- a call that asks nothing of plane k keeps the premise
 pub asks-nothing-else : (k : ℕ) (s : State) (c : Call) → (Asked k s c → ⊥) → Obeys k s c
 unfolding NotFrom ComparesWithout NoPeek
-asks-nothing-else k s (vram c) n = record { reads = vram-asks k s c n; compares = λ a. tt; peeks = tt }
-asks-nothing-else k s (sequencer c) n = record { reads = λ a. tt; compares = λ a. tt; peeks = tt }
-asks-nothing-else k s (direct c) n = record { reads = direct-asks k s c n; compares = λ a. tt; peeks = tt }
-asks-nothing-else k s (graphics c) n = record { reads = λ a. tt; compares = λ a. tt; peeks = tt }
+asks-nothing-else k s (vram c) n = record { reads = vram-asks k s c n; compares = λ a. tt; peeks = λ a. tt }
+asks-nothing-else k s (sequencer c) n = record { reads = λ a. tt; compares = λ a. tt; peeks = λ a. tt }
+asks-nothing-else k s (direct c) n = record { reads = direct-asks k s c n; compares = λ a. tt; peeks = λ a. tt }
+asks-nothing-else k s (graphics c) n = record { reads = λ a. tt; compares = λ a. tt; peeks = λ a. tt }
 asks-nothing-else k s (cpu c) n = cpu-asks k s c n
 
 -- ---- nothing is asked in vain
@@ -104,7 +105,19 @@ asked-tells (asksSeqPeekU8 e a) q = q e
 asked-tells (asksSeqGcReadU8 e a) q = q e
 asked-tells (asksSelected m e a) q = (rw m at q) e
 asked-tells (asksCompared m e a) q = let z = rw m at q in let y : _≡_ {A = ℕ} 0 1 = sym z ∙ e in omega arith
-asked-tells (asksPeek e) q = q e
+asked-tells (asksPeek e a) q = q e
+
+-- a refused call asks nothing
+asked-accepted : {k : ℕ} {s : State} {c : Call} → Asked k s c → accepted s c
+asked-accepted (asksReadU8 e a) = a
+asked-accepted (asksPeekU8 e a) = a
+asked-accepted (asksReadGlyph e a) = a
+asked-accepted (asksSeqCpuReadU8 e a) = a
+asked-accepted (asksSeqPeekU8 e a) = a
+asked-accepted (asksSeqGcReadU8 e a) = a
+asked-accepted (asksSelected m e a) = a
+asked-accepted (asksCompared m e a) = a
+asked-accepted (asksPeek e a) = a
 
 -- ---- a run whose replies tell nothing of plane k
 
@@ -124,16 +137,20 @@ silent-told k (compare care colour) e = eqb-true (bit k care) 0 e
 silent-told k (pixelAt j) e = tt
 silent-told k (pixelsAt j) e = tt
 
--- whether no reply of a run tells of plane k
+-- whether no reply of a run tells of plane k: each call is refused, or its reply is silent
 unfoldable pub quiet : ℕ → State → List Call → Bool
 unfolding isSilent replyOf
 quiet k s [] = true
-quiet k s (c ∷ cs) = isSilent k (replyOf s c) && quiet k (step s c .next) cs
+quiet k s (c ∷ cs) = (not (eqb (step s c .answer .number) 0) || isSilent k (replyOf s c)) && quiet k (step s c .next) cs
 
 -- such a run keeps the premise
 pub quiet-obeys : (k : ℕ) (cs : List Call) (s : State) → quiet k s cs ≡ true → Along (Obeys k) s cs
 unfolding quiet isSilent replyOf Along
 quiet-obeys k [] s e = tt
 quiet-obeys k (c ∷ cs) s e =
-    let h = both _ _ e in
-    (asks-nothing-else k s c (λ a. asked-tells a (silent-told k (replyOf s c) (h .0))), quiet-obeys k cs (step s c .next) (h .1))
+    let h = both (not (eqb (step s c .answer .number) 0) || isSilent k (replyOf s c)) (quiet k (step s c .next) cs) e in
+    (asks-nothing-else k s c (unasked (step s c .answer .number) refl (h .0)), quiet-obeys k cs (step s c .next) (h .1))
+  where
+    unasked : (n : ℕ) → step s c .answer .number ≡ n → (not (eqb n 0) || isSilent k (replyOf s c)) ≡ true → Asked k s c → ⊥
+    unasked zero z h a = asked-tells a (silent-told k (replyOf s c) h)
+    unasked (suc n) z h a = let y : _≡_ {A = ℕ} 0 (suc n) = sym (asked-accepted a) ∙ z in omega arith

@@ -1,4 +1,4 @@
--- Document 01's twelve cases: one list of what the definitions give, one list of what the document says, one statement. By computation.
+-- Document 01's twelve cases, and a thirteenth that K4 added: one list of what the definitions give, one list of what the documents say, one statement. By computation.
 use Prim.Native.Nat.{ℕ}
 use mathlib.Core.Path.{_≡_, refl}
 use mathlib.Core.Bool.{true, false}
@@ -6,7 +6,7 @@ use mathlib.Core.List.{List, [], _∷_, _++_}
 use lib.ListN.{replicate}
 use Rattle.machine.specs.Calls.{readU8, writeU8, gcReadAddress, gcReadData, gcWriteAddress, gcWriteData, gcMapAddress, cpuRead, cpuWrite}
 use Rattle.machine.specs.Step.{Call, vram, graphics, cpu}
-use Rattle.machine.proofs.Worked.{gcTo, seqTo, says, leaves, leads, firsts, case11}
+use Rattle.machine.proofs.Worked.{gcTo, seqTo, says, leaves, leads, firsts, case10, case11}
 
 -- the 64K window, every plane in the mask, sequential, Bit Mask so, Data Rotate so; a latch byte in plane 0
 drawing : ℕ → ℕ → ℕ → List Call
@@ -27,7 +27,7 @@ compares care =
     (cpu (cpuRead 0xA0000 false) ∷ [])
 
 pub cases : List (List ℕ)
-unfolding leads draws compares says leaves firsts case11 gcTo seqTo
+unfolding leads draws compares says leaves firsts case10 case11 gcTo
 cases =
     -- 1. 128K plain
     leads 0 (0xBFFFF ∷ [])
@@ -48,12 +48,14 @@ cases =
     -- 9. latches F0, CC, AA, 00, compare 3, Don't Care F, 3, 0
     ∷ (compares 0xF ++ (compares 3 ++ compares 0))
     -- 10. chain-four, offset 5, Map Mask 0, GC sequential: every byte of the planes
-    ∷ (let m = leaves (gcTo 6 4 ++ (gcTo 8 0xFF ++ (seqTo 4 12 ++ (cpu (cpuWrite 0xA0005 false 0xFF) ∷ [])))) in m .p0 ++ (m .p1 ++ (m .p2 ++ m .p3)))
+    ∷ (let m = leaves case10 in m .p0 ++ (m .p1 ++ (m .p2 ++ m .p3)))
     -- 11. mode 2, byte 5, Bit Mask FF, Map Mask 7, function 0, sequential, zero memory: the first byte of each plane, the first eight pixels
     ∷ firsts case11
     -- 12. address B after 3: reads B, data go to Data Rotate
     ∷ says (graphics (gcWriteAddress 3) ∷ graphics (gcWriteAddress 0xB) ∷ [])
     (graphics gcReadAddress ∷ graphics (gcWriteData 0x5A) ∷ graphics (gcWriteAddress 3) ∷ graphics gcReadData ∷ [])
+    -- 13, of K4: after the store of case 10, the read gives the stored byte
+    ∷ says case10 (cpu (cpuRead 0xA0005 false) ∷ [])
     ∷ []
 
 -- an answer of `map_address` is its number, the offset, a0
@@ -71,8 +73,10 @@ document =
     ∷ (replicate 8 0 ++ ((0 ∷ 0 ∷ 0 ∷ 0 ∷ 0xFF ∷ 0 ∷ 0 ∷ 0 ∷ []) ++ replicate 16 0))
     ∷ (0xFF ∷ 0x00 ∷ 0xFF ∷ 0x00 ∷ replicate 8 5)
     ∷ (0 ∷ 0xB ∷ 0 ∷ 0 ∷ 0 ∷ 0 ∷ 0 ∷ 0x5A ∷ [])
+    ∷ (0 ∷ 0xFF ∷ [])
     ∷ []
 
+-- the twelve, and K4's
 pub twelve-cases : cases ≡ document
 unfolding cases document
 twelve-cases = refl

@@ -19,7 +19,9 @@ use Rattle.machine_types.specs.declared.shape.Shape.{Shape}
 use Rattle.machine.specs.Memory.{Memory, shape, sound}
 use Rattle.machine.specs.Answers.{Value, one, two, blank, said, outcome, answered}
 use Rattle.machine.specs.Graphics.{fitsGc, chained, memoryMap, readMode, writeMode}
+use Rattle.machine.specs.Sequencer.{storedAt}
 use Rattle.machine.specs.Address.{inWindow, a0, withBit0, mapped, offset}
+use Rattle.machine.specs.DataPath.{peekedPlane}
 use Rattle.machine.specs.Deeds.{rest, load, known, byteAt, plan, memoryAfter, valueOf}
 use Rattle.machine.specs.Calls.{refuse, checkOffset, fitsBoth, accessNumber, gcMapAddress, gcNumberOf, gcValue, gcNext}
 use Rattle.machine.specs.Calls.{CpuCall, cpuRead, cpuPeek, cpuWrite, CpuPlan, cpuPlanOf, writeCounter, readCounter, noCounter, readReply, writeDeed, cpuPlan}
@@ -101,8 +103,8 @@ accessAt (writes v) x page = cpuWrite x page v
 
 -- its plan, the number and the offset left open
 abbrev planAt : GraphicsRegisters → Sequencer → ℕ → Access → ℕ → ℕ → CpuPlan
-planAt r s x reads n o = cpuPlanOf (plan n (load o) (readReply (readMode r) r x o)) (readCounter (readMode r))
-planAt r s x peeks n o = cpuPlanOf (plan n rest (byteAt 0 o)) noCounter
+planAt r s x reads n o = cpuPlanOf (plan n (load (storedAt s o)) (readReply (readMode r) r s x o)) (readCounter (readMode r))
+planAt r s x peeks n o = cpuPlanOf (plan n rest (byteAt (peekedPlane s o) (storedAt s o))) noCounter
 planAt r s x (writes v) n o = cpuPlanOf (plan n (writeDeed (writeMode r) r s x o v) (known (one 0))) (writeCounter (writeMode r))
 
 module _ (rule : GraphicsRegisters → ℕ → Bool → ℕ) (r : GraphicsRegisters) (s : Sequencer) (h : Shape) (x : ℕ) (page : Bool) where
@@ -157,16 +159,16 @@ module _ (r : GraphicsRegisters) (x : ℕ) (page : Bool) where
 -- ---- by the rule as written: every answer, and what is left
 
 -- a refused read's value is 0 in both read modes
-blank-read : (d : ReadMode) (r : GraphicsRegisters) (x o : ℕ) (l : List ℕ) (m : Memory) → blank (valueOf (readReply d r x o) l m) ≡ one 0
+blank-read : (d : ReadMode) (r : GraphicsRegisters) (s : Sequencer) (x o : ℕ) (l : List ℕ) (m : Memory) → blank (valueOf (readReply d r s x o) l m) ≡ one 0
 unfolding valueOf readReply
-blank-read ReadSelectedPlane r x o l m = refl
-blank-read ReadComparedPlanes r x o l m = refl
+blank-read ReadSelectedPlane r s x o l m = refl
+blank-read ReadComparedPlanes r s x o l m = refl
 
 module _ (g : GraphicsController) (s : Sequencer) (m : Memory) (x : ℕ) (page : Bool) where
   -- a refused access shows no offset
   refused : (k : Access) (n o : ℕ) → cpuPerform (planAt (g .registers) s x k (suc n) o) g m ≡ outcome (said (suc n) (one 0)) (device g m)
   unfolding memoryAfter valueOf
-  refused reads n o = ap (λ (v : Value). outcome (said (suc n) v) (device g m)) (blank-read (readMode (g .registers)) _ x o _ m)
+  refused reads n o = ap (λ (v : Value). outcome (said (suc n) v) (device g m)) (blank-read (readMode (g .registers)) _ s x o _ m)
   refused peeks n o = refl
   refused (writes v) n o = refl
 

@@ -1,5 +1,5 @@
 -- What worked examples are made of: a start, registers written, what calls say and what they leave. Each computes.
-use Prim.Native.Nat.{ℕ}
+use Prim.Native.Nat.{ℕ, _*_}
 use mathlib.Core.Bool.{false}
 use mathlib.Core.List.{List, [], _∷_, _++_, map}
 use lib.ListN.{replicate, take}
@@ -10,9 +10,13 @@ use Rattle.machine.specs.Calls.{writeU8, seqWriteAddress, seqWriteData, 
 use Rattle.machine.specs.Step.{State, state, Call, vram, sequencer, graphics, cpu}
 use Rattle.machine.proofs.Computed.{computed}
 
--- both register sets at their start, eight bytes a plane, all 0
+-- both register sets at their start, so many bytes a plane, all 0
+abbrev pub startOf : ℕ → State
+startOf n = state freshGc freshSeq (mem (replicate n 0) (replicate n 0) (replicate n 0) (replicate n 0) (replicate (8 * n) 0))
+
+-- eight bytes a plane
 unfoldable pub start : State
-start = state freshGc freshSeq (mem (replicate 8 0) (replicate 8 0) (replicate 8 0) (replicate 8 0) (replicate 64 0))
+start = startOf 8
 
 -- an answer as numbers: its own, then its value's
 unfoldable pub told : Said → List ℕ
@@ -41,14 +45,19 @@ gcTo n x = graphics (gcWriteAddress n) ∷ graphics (gcWriteData x) ∷ []
 unfoldable pub seqTo : ℕ → ℕ → List Call
 seqTo n x = sequencer (seqWriteAddress n) ∷ sequencer (seqWriteData x) ∷ []
 
--- what calls say, after others that set the registers and the memory up
-unfoldable pub says : List Call → List Call → List ℕ
-unfolding start told computed
-says set cs = flat (computed (computed start set .final) cs .answers)
+-- what calls say, after others that set the registers and the memory up, from a state
+unfoldable pub saysFrom : State → List Call → List Call → List ℕ
+unfolding told computed
+saysFrom s set cs = flat (computed (computed s set .final) cs .answers)
   where
     flat : List Said → List ℕ
     flat [] = []
     flat (a ∷ as′) = told a ++ flat as′
+
+-- .. from that start
+unfoldable pub says : List Call → List Call → List ℕ
+unfolding start saysFrom
+says = saysFrom start
 
 -- what they leave
 unfoldable pub leaves : List Call → Memory
@@ -74,6 +83,11 @@ tops cs = let m = leaves cs in take 2 (m .p0) ++ (take 2 (m .p1) ++ (take 2 (m .
 unfoldable pub firsts : List Call → List ℕ
 unfolding leaves
 firsts cs = let m = leaves cs in take 1 (m .p0) ++ (take 1 (m .p1) ++ (take 1 (m .p2) ++ (take 1 (m .p3) ++ take 8 (m .picture))))
+
+-- case 10's write: chain-four, offset 5, Map Mask 0, GC sequential
+unfoldable pub case10 : List Call
+unfolding gcTo seqTo
+case10 = gcTo 6 4 ++ (gcTo 8 0xFF ++ (seqTo 4 12 ++ (cpu (cpuWrite 0xA0005 false 0xFF) ∷ [])))
 
 -- case 11's write: mode 2, byte 5, Bit Mask FF, Map Mask 7, function 0, sequential
 unfoldable pub case11 : List Call

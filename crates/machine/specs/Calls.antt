@@ -20,7 +20,7 @@ use Rattle.machine.specs.Graphics.{withAddress, withData, dataOf, fitsGc
 use Rattle.machine_types.specs.Start.{freshGc, freshSeq}
 use Rattle.machine.specs.Sequencer.{withSeqAddress, withSeqData, seqDataOf, withMark, fitsSeq, inMask, storedAt, gcReadAt}
 use Rattle.machine.specs.Address.{inWindow, a0, offset}
-use Rattle.machine.specs.DataPath.{writtenBit, visits, selectedPlane}
+use Rattle.machine.specs.DataPath.{writtenBit, visits, selectedPlane, peekedPlane}
 use Rattle.machine.specs.Deeds.{Deed, rest, load, store, remake, Reply, known, byteAt, compare, pixelAt, pixelsAt, Plan, plan}
 
 -- ---- refusals
@@ -299,18 +299,18 @@ counted n c = record {
   «mode_1_reads» = raised n 5 (c .«mode_1_reads»);
 }
 
--- selected-plane read: the selected plane's byte; compare read: the latches compared
-unfoldable pub readReply : ReadMode → GraphicsRegisters → ℕ → ℕ → Reply
-readReply ReadSelectedPlane r x o = byteAt (selectedPlane r x) o
-readReply ReadComparedPlanes r x o = compare (r .«color_dont_care») (r .«color_compare»)
+-- selected-plane read: the selected plane's byte, under chain-four at the offset with its low two bits clear; compare read: the latches compared
+unfoldable pub readReply : ReadMode → GraphicsRegisters → Sequencer → ℕ → ℕ → Reply
+readReply ReadSelectedPlane r s x o = byteAt (selectedPlane r s x o) (storedAt s o)
+readReply ReadComparedPlanes r s x o = compare (r .«color_dont_care») (r .«color_compare»)
 
 -- every mode stores; a visited plane is stored only if the mask has it
 unfoldable pub writeDeed : WriteMode → GraphicsRegisters → Sequencer → ℕ → ℕ → ℕ → Deed
 writeDeed w r s x o v = store (storedAt s o) (λ p. visits r x p && inMask s o (a0 x) p) (λ p i l old. writtenBit w r v p i l)
 
--- the GC's peek: plane 0, no latch or counter moves
+-- under chain-four latches load, and a peek answers, at the offset with its low two bits clear, as stores go there; a peek moves no latch or counter
 unfoldable pub cpuPlan : GraphicsRegisters → Sequencer → Shape → CpuCall → CpuPlan
-cpuPlan r s h (cpuRead x page) = cpuPlanOf (plan (accessNumber r s h x page) (load (offset r x page)) (readReply (readMode r) r x (offset r x page))) (readCounter (readMode r))
-cpuPlan r s h (cpuPeek x page) = cpuPlanOf (plan (accessNumber r s h x page) rest (byteAt 0 (offset r x page))) noCounter
+cpuPlan r s h (cpuRead x page) = cpuPlanOf (plan (accessNumber r s h x page) (load (storedAt s (offset r x page))) (readReply (readMode r) r s x (offset r x page))) (readCounter (readMode r))
+cpuPlan r s h (cpuPeek x page) = cpuPlanOf (plan (accessNumber r s h x page) rest (byteAt (peekedPlane s (offset r x page)) (storedAt s (offset r x page)))) noCounter
 cpuPlan r s h (cpuWrite x page v) = cpuPlanOf (plan (accessNumber r s h x page) (writeDeed (writeMode r) r s x (offset r x page) v) (known (one 0))) (writeCounter (writeMode r))
 cpuPlan r s h (serialize o) = cpuPlanOf (plan (showNumber r s h o) rest (pixelsAt (8 * o))) noCounter

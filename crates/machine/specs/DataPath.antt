@@ -9,7 +9,9 @@ use Rattle.machine_types.specs.declared.gc.LogicFunction.the-variants.{Unmodifi
 use Rattle.machine_types.specs.declared.gc.WriteMode.{WriteMode}
 use Rattle.machine_types.specs.declared.gc.WriteMode.the-variants.{Mode0, Mode1, Mode2, Mode3}
 use Rattle.machine_types.specs.declared.gc.GraphicsRegisters.{GraphicsRegisters}
+use Rattle.machine_types.specs.declared.seq.Sequencer.{Sequencer}
 use Rattle.machine.specs.Graphics.{oddEven, isOddEven, rotateCount, logicFunction}
+use Rattle.machine.specs.Sequencer.{answersFrom}
 use Rattle.machine.specs.Address.{a0}
 
 -- the byte rotated: eight bits turned right by the count
@@ -47,6 +49,14 @@ writtenBit Mode3 r x p i l = masked (logicFunction r) (maskBit r x i) (bit p (r 
 unfoldable pub visits : GraphicsRegisters → ℕ → ℕ → Bool
 visits r x p = pick (isOddEven (oddEven r)) (eqb p (bitOf (a0 x)) || eqb p (2 + bitOf (a0 x))) true
 
--- selected-plane read: the map select's plane; with GC odd/even, its bit 0 replaced by a0
-unfoldable pub selectedPlane : GraphicsRegisters → ℕ → ℕ
-selectedPlane r x = pick (isOddEven (oddEven r)) (r .«read_map_select» / 2 * 2 + bitOf (a0 x)) (r .«read_map_select»)
+-- the map select's plane; with GC odd/even, its bit 0 replaced by a0
+abbrev pub mapSelected : GraphicsRegisters → ℕ → ℕ
+mapSelected r x = pick (isOddEven (oddEven r)) (r .«read_map_select» / 2 * 2 + bitOf (a0 x)) (r .«read_map_select»)
+
+-- the plane that a selected-plane read of an address answers from, at the offset that the address leads to: under chain-four map select and GC odd/even are ignored
+unfoldable pub selectedPlane : GraphicsRegisters → Sequencer → ℕ → ℕ → ℕ
+selectedPlane r s x o = answersFrom s o (mapSelected r x)
+
+-- the plane that the GC's peek answers from: plane 0, but for chain-four
+unfoldable pub peekedPlane : Sequencer → ℕ → ℕ
+peekedPlane s o = answersFrom s o 0

@@ -10,10 +10,12 @@ use Rattle.machine_types.specs.declared.gc.GraphicsRegisters.{GraphicsRegisters
 use Rattle.machine_types.specs.declared.gc.GraphicsController.{GraphicsController}
 use Rattle.machine_types.specs.declared.gc.ReadMode.{ReadMode}
 use Rattle.machine_types.specs.declared.gc.ReadMode.the-variants.{ReadSelectedPlane, ReadComparedPlanes}
+use Rattle.machine_types.specs.declared.seq.Sequencer.{Sequencer}
 use Rattle.machine.specs.Memory.{Memory, plane}
 use Rattle.machine.specs.Answers.{Value, one, two, pixel, part, Said, said, Outcome}
 use Rattle.machine.specs.Graphics.{readMode}
-use Rattle.machine.specs.DataPath.{selectedPlane}
+use Rattle.machine.specs.Address.{offset}
+use Rattle.machine.specs.DataPath.{selectedPlane, peekedPlane}
 use Rattle.machine.specs.Deeds.{latch}
 use Rattle.machine.specs.Calls.{VramCall, readU8, peekU8, readGlyph, readLinear, serializeLinear, writeU8, planeSet, planeAnd, planeOr, deplane}
 use Rattle.machine.specs.Calls.{DirectCall, seqCpuReadU8, seqPeekU8, seqGcReadU8, seqReadLinear, seqSerializeLinear, seqPlaneSet, seqPlaneAnd, seqPlaneOr}
@@ -87,17 +89,17 @@ directNotFrom k (seqPlaneSet p o a x) = Unit {0}
 directNotFrom k (seqPlaneAnd p o a x) = Unit {0}
 directNotFrom k (seqPlaneOr p o a x) = Unit {0}
 
--- a selected-plane read answers from the selected plane; a compare read is no such read
-unfoldable pub selectedNotFrom : ℕ → ReadMode → GraphicsRegisters → ℕ → Type 0
-selectedNotFrom k ReadSelectedPlane r x = selectedPlane r x ≢ k
-selectedNotFrom k ReadComparedPlanes r x = Unit {0}
+-- a selected-plane read answers from the selected plane, chain-four's choice included; a compare read is no such read
+unfoldable pub selectedNotFrom : ℕ → ReadMode → GraphicsRegisters → Sequencer → ℕ → ℕ → Type 0
+selectedNotFrom k ReadSelectedPlane r s x o = selectedPlane r s x o ≢ k
+selectedNotFrom k ReadComparedPlanes r s x o = Unit {0}
 
 -- of the processor's accesses, only a selected-plane read answers from a selected plane
-unfoldable pub cpuNotFrom : ℕ → GraphicsRegisters → CpuCall → Type 0
-cpuNotFrom k r (cpuRead x page) = selectedNotFrom k (readMode r) r x
-cpuNotFrom k r (cpuPeek x page) = Unit {0}
-cpuNotFrom k r (cpuWrite x page v) = Unit {0}
-cpuNotFrom k r (serialize o) = Unit {0}
+unfoldable pub cpuNotFrom : ℕ → GraphicsRegisters → Sequencer → CpuCall → Type 0
+cpuNotFrom k r s (cpuRead x page) = selectedNotFrom k (readMode r) r s x (offset r x page)
+cpuNotFrom k r s (cpuPeek x page) = Unit {0}
+cpuNotFrom k r s (cpuWrite x page v) = Unit {0}
+cpuNotFrom k r s (serialize o) = Unit {0}
 
 -- no selected-plane or direct plane read answers from plane k
 unfoldable pub NotFrom : ℕ → State → Call → Type 0
@@ -105,7 +107,7 @@ NotFrom k s (vram c) = vramNotFrom k c
 NotFrom k s (sequencer c) = Unit {0}
 NotFrom k s (direct c) = directNotFrom k c
 NotFrom k s (graphics c) = Unit {0}
-NotFrom k s (cpu c) = cpuNotFrom k (s .gc .registers) c
+NotFrom k s (cpu c) = cpuNotFrom k (s .gc .registers) (s .seq) c
 
 -- a compare read has k's Color Don't Care bit clear
 unfoldable pub comparedWithout : ℕ → ReadMode → GraphicsRegisters → Type 0
@@ -127,32 +129,26 @@ ComparesWithout k s (direct c) = Unit {0}
 ComparesWithout k s (graphics c) = Unit {0}
 ComparesWithout k s (cpu c) = cpuWithout k (s .gc .registers) c
 
--- where k is 0, there is no peek
-unfoldable pub cpuNoPeek : ℕ → CpuCall → Type 0
-cpuNoPeek k (cpuRead x page) = Unit {0}
-cpuNoPeek k (cpuPeek x page) = 0 ≢ k
-cpuNoPeek k (cpuWrite x page v) = Unit {0}
-cpuNoPeek k (serialize o) = Unit {0}
+-- K4: a peek of the processor answers from the peeked plane, chain-four's choice included
+unfoldable pub cpuNoPeek : ℕ → GraphicsRegisters → Sequencer → CpuCall → Type 0
+cpuNoPeek k r s (cpuRead x page) = Unit {0}
+cpuNoPeek k r s (cpuPeek x page) = peekedPlane s (offset r x page) ≢ k
+cpuNoPeek k r s (cpuWrite x page v) = Unit {0}
+cpuNoPeek k r s (serialize o) = Unit {0}
 
--- where k is 0, no call is a peek
-unfoldable pub NoPeek : ℕ → Call → Type 0
-NoPeek k (vram c) = Unit {0}
-NoPeek k (sequencer c) = Unit {0}
-NoPeek k (direct c) = Unit {0}
-NoPeek k (graphics c) = Unit {0}
-NoPeek k (cpu c) = cpuNoPeek k c
+-- no peek answers from plane k
+unfoldable pub NoPeek : ℕ → State → Call → Type 0
+NoPeek k s (vram c) = Unit {0}
+NoPeek k s (sequencer c) = Unit {0}
+NoPeek k s (direct c) = Unit {0}
+NoPeek k s (graphics c) = Unit {0}
+NoPeek k s (cpu c) = cpuNoPeek k (s .gc .registers) (s .seq) c
 
--- the mission's words; a refused read answers from no plane
+-- the mission's words, with K4's on peeks; a refused read or peek answers from no plane
 pub record Obeys (k : ℕ) (s : State) (c : Call) : Type 0 where
   pub reads : accepted s c → NotFrom k s c
   pub compares : accepted s c → ComparesWithout k s c
-  pub peeks : NoPeek k c
-
--- the same with peeks that are refused let through
-pub record ObeysAccepted (k : ℕ) (s : State) (c : Call) : Type 0 where
-  pub reads : accepted s c → NotFrom k s c
-  pub compares : accepted s c → ComparesWithout k s c
-  pub peeks : accepted s c → NoPeek k c
+  pub peeks : accepted s c → NoPeek k s c
 
 -- the questions that the premise rules out, a constructor for each kind of call that can ask one: `asks-nothing-else` says that there is no other
 pub data Asked (k : ℕ) (s : State) : Call → Type 0 where
@@ -164,14 +160,14 @@ pub data Asked (k : ℕ) (s : State) : Call → Type 0 where
   asksSeqCpuReadU8 : {p o : ℕ} {a : Bool} → p ≡ k → accepted s (direct (seqCpuReadU8 p o a)) → Asked k s (direct (seqCpuReadU8 p o a))
   asksSeqPeekU8 : {p o : ℕ} {a : Bool} → p ≡ k → accepted s (direct (seqPeekU8 p o a)) → Asked k s (direct (seqPeekU8 p o a))
   asksSeqGcReadU8 : {p o : ℕ} {a : Bool} → p ≡ k → accepted s (direct (seqGcReadU8 p o a)) → Asked k s (direct (seqGcReadU8 p o a))
-  -- an accepted selected-plane read whose selected plane is k
-  asksSelected : {x : ℕ} {page : Bool} → readMode (s .gc .registers) ≡ ReadSelectedPlane → selectedPlane (s .gc .registers) x ≡ k
+  -- an accepted selected-plane read that answers from k
+  asksSelected : {x : ℕ} {page : Bool} → readMode (s .gc .registers) ≡ ReadSelectedPlane → selectedPlane (s .gc .registers) (s .seq) x (offset (s .gc .registers) x page) ≡ k
       → accepted s (cpu (cpuRead x page)) → Asked k s (cpu (cpuRead x page))
   -- an accepted compare read with k's Color Don't Care bit set
   asksCompared : {x : ℕ} {page : Bool} → readMode (s .gc .registers) ≡ ReadComparedPlanes → bit k (s .gc .registers .«color_dont_care») ≡ 1
       → accepted s (cpu (cpuRead x page)) → Asked k s (cpu (cpuRead x page))
-  -- where k is 0, a peek
-  asksPeek : {x : ℕ} {page : Bool} → 0 ≡ k → Asked k s (cpu (cpuPeek x page))
+  -- an accepted peek that answers from k
+  asksPeek : {x : ℕ} {page : Bool} → peekedPlane (s .seq) (offset (s .gc .registers) x page) ≡ k → accepted s (cpu (cpuPeek x page)) → Asked k s (cpu (cpuPeek x page))
 
 -- a premise kept by each call of a run
 unfoldable pub Along : (State → Call → Type 0) → State → List Call → Type 0

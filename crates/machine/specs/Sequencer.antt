@@ -132,6 +132,10 @@ inMask s o a0 p = pick (chainFour s) (eqb p (o % 4))
 unfoldable pub storedAt : Sequencer → ℕ → ℕ
 storedAt s o = pick (chainFour s) (o / 4 * 4) o
 
+-- K4: the plane that a read or a peek of the processor answers from is the single plane offset mod 4 under chain-four, else the one that it names
+unfoldable pub answersFrom : Sequencer → ℕ → ℕ → ℕ
+answersFrom s o p = pick (chainFour s) (o % 4) p
+
 -- `gc_read_u8`: sequential with chain-four set reads at the offset with its low two bits clear, otherwise as it stands
 unfoldable pub gcReadAt : Sequencer → ℕ → ℕ
 gcReadAt s o = pick (isSeqOddEven (seqOddEven s)) o (storedAt s o)

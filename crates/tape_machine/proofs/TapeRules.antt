@@ -114,6 +114,8 @@ operations =
     ∷ played (5 ∷ 0x80 ∷ 0x80 ∷ 0x28 ∷ 0 ∷ 7 ∷ 0x82 ∷ 0x80 ∷ 0x28 ∷ 1 ∷ 1 ∷ 5 ∷ 2 ∷ 1 ∷ 6 ∷ 0x82 ∷ 0x80 ∷ 0x28 ∷ 0 ∷ 0x7F ∷ [])
     -- write mode 3: byte A5 at A0003
     ∷ played (1 ∷ 5 ∷ 2 ∷ 3 ∷ 6 ∷ 0x83 ∷ 0x80 ∷ 0x28 ∷ 0 ∷ 0xA5 ∷ 1 ∷ [])
+    -- Memory Mode 8, chain-four: a read of A0003, page 0, and a peek of A0002, page 1
+    ∷ played (3 ∷ 4 ∷ 4 ∷ 8 ∷ 5 ∷ 0x83 ∷ 0x80 ∷ 0x28 ∷ 0 ∷ 7 ∷ 0x82 ∷ 0x80 ∷ 0x28 ∷ 1 ∷ [])
     -- another map: reads of B8001 and of A0002
     ∷ played (1 ∷ 6 ∷ 2 ∷ 12 ∷ 5 ∷ 0x81 ∷ 0x80 ∷ 0x2E ∷ 1 ∷ 5 ∷ 0x82 ∷ 0x80 ∷ 0x28 ∷ 0 ∷ [])
     -- an operation of 9, a page of 2, a read that is cut, a number that is damaged: each after a record that stays done
@@ -183,6 +185,9 @@ operationsSaid =
     ∷ ((line 1 1 0 0 ++ (line 2 2 0 0 ++ line 3 6 0 0)) ∷ (5 ∷ 5 ∷ 9 ∷ 8 ∷ 3 ∷ 1 ∷ 1 ∷ 3 ∷ 6 ∷ 7 ∷ 0xFF ∷ []) ∷ sceneSeq ∷ sceneLatches ∷ (10 ∷ 20 ∷ 30 ∷ 41 ∷ 50 ∷ 60 ∷ [])
     ∷ (0x10 ∷ 0x11 ∷ 0xD3 ∷ 0x13 ∷ 0x20 ∷ 0x21 ∷ 0 ∷ 0x23 ∷ 0x40 ∷ 0x41 ∷ 0x42 ∷ 0x43 ∷ 0x80 ∷ 0x81 ∷ 0xDA ∷ 0x83 ∷ [])
     ∷ (replicate 8 1 ++ (replicate 8 2 ++ ((9 ∷ 13 ∷ 0 ∷ 9 ∷ 8 ∷ 0 ∷ 13 ∷ 1 ∷ []) ++ replicate 8 4))) ∷ [])
+    -- offsets 2 and 3: planes 2 and 3 at offset 0, where all latches are loaded; the peek moves none and counts nothing
+    ∷ ((line 1 3 0 0 ++ (line 2 4 0 0 ++ (line 3 5 0 0x40 ++ line 4 7 0 0x80))) ∷ sceneGc ∷ (4 ∷ 4 ∷ 3 ∷ 9 ∷ 11 ∷ 5 ∷ 8 ∷ 1 ∷ 2 ∷ 16 ∷ []) ∷ (0x10 ∷ 0x20 ∷ 0x40 ∷ 0x80 ∷ [])
+    ∷ (10 ∷ 20 ∷ 30 ∷ 40 ∷ 51 ∷ 60 ∷ []) ∷ sceneBytes ∷ scenePixels ∷ [])
     -- B8000: minus B8000; A0002 is outside its window
     ∷ ((line 1 1 0 0 ++ (line 2 2 0 0 ++ (line 3 5 0 0x21 ++ line 4 5 2 0))) ∷ (6 ∷ 6 ∷ 9 ∷ 8 ∷ 3 ∷ 1 ∷ 1 ∷ 4 ∷ 12 ∷ 7 ∷ 0xFF ∷ []) ∷ sceneSeq
     ∷ (0x11 ∷ 0x21 ∷ 0x41 ∷ 0x81 ∷ []) ∷ (10 ∷ 20 ∷ 30 ∷ 40 ∷ 51 ∷ 60 ∷ []) ∷ sceneBytes ∷ scenePixels ∷ [])

@@ -1,5 +1,6 @@
--- `cpu_peek_u8` answers as the machine: refused by the judge's number, else plane 0's byte, and nothing moves.
-use Rattle.graphics_controller.proofs.Accesses.{JudgedAddress, judged, located, unlocated, peek-refused, peek-done}
+-- `cpu_peek_u8` answers as the machine: refused by the judge's number, else a byte where chain-four leads, and nothing moves.
+use Rattle.graphics_controller.proofs.Accesses.{JudgedAddress, judged, located, unlocated, peeked-small, peek-refused, peek-done}
+use Rattle.sequencer_masks.proofs.Laws.{stored-at-lt}
 use Rattle.machine.specs.Memory.{Memory, mem, shape}
 use Rattle.machine.proofs.Laws.{refusal-some, access-accepted}
 use Rattle.machine.specs.Address.{a0}
@@ -55,20 +56,27 @@ judge-address-requires c κs = search needs
 enum-known-x : tie.Need-enum-known-x
 enum-known-x c = search needs
 
-enum-known-offset : tie.Need-enum-known-offset
-enum-known-offset c = search needs
+enum-known-found : tie.Need-enum-known-found
+enum-known-found c = search needs
 
-shared-slice-read-t27 : tie.Need-shared-slice-read-t27
+peeked-plane-requires : tie.Need-peeked-plane-requires
+peeked-plane-requires c κs = search needs
+
+stored-at-requires : tie.Need-stored-at-requires
+stored-at-requires c κs = search needs
+
+byte-requires : tie.Need-byte-requires
 unfolding start-of
-shared-slice-read-t27 c =
-    let after-offset : tie.After-offset = search needs in
+byte-requires c κs =
+    let after-peeked-plane : tie.After-peeked-plane = search needs in
+    let after-found : tie.After-found = search needs in
     let after-judge-address : tie.After-judge-address = search needs in
     let start = start-of after-judge-address in
     let a = start .args in
     let m = lent-to start in
-    let l = located _ _ _ _ (a0 (a .address)) (address-judged after-judge-address) _ _ (after-offset .offset .given .1) in
+    let l = located _ _ _ _ (a0 (a .address)) (address-judged after-judge-address) _ _ (after-found .found .given .1) in
     let h = access-accepted (shape m) (a .gc .registers) (a .seq) (a .address) (a .page) (sym (l .accepted)) in
-    omega (arith, l .offset, h .offset)
+    (h .shaped, (stored-at-lt (a .seq) _ (c .stored-at .ensures) (omega (arith, l .offset, h .offset)), rw (after-peeked-plane .peeked-plane .ensures) (peeked-small (a .seq) _)))
 
 returns : tie.Need-returns
 unfolding start-of
@@ -83,13 +91,15 @@ returns c =
 returns-2 : tie.Need-returns-2
 unfolding start-of
 returns-2 c =
-    let after-offset : tie.After-offset = search needs in
+    let after-stored-at : tie.After-stored-at = search needs in
+    let after-peeked-plane : tie.After-peeked-plane = search needs in
+    let after-found : tie.After-found = search needs in
     let after-judge-address : tie.After-judge-address = search needs in
     let start = start-of after-judge-address in
     let a = start .args in
     let m = lent-to start in
-    let l = located _ _ _ _ (a0 (a .address)) (address-judged after-judge-address) _ _ (after-offset .offset .given .1) in
-    peek-done (a .gc) (a .seq) m (a .address) (a .page) _ (l .accepted) (l .offset)
+    let l = located _ _ _ _ (a0 (a .address)) (address-judged after-judge-address) _ _ (after-found .found .given .1) in
+    peek-done (a .gc) (a .seq) m (a .address) (a .page) _ _ _ _ (l .accepted) (l .offset) (after-peeked-plane .peeked-plane .ensures) (after-stored-at .stored-at .ensures) (c .byte .ensures)
 
 pub cpu-peek-u8-spec : {M : Type 1} → statement M
 cpu-peek-u8-spec =
@@ -102,7 +112,9 @@ cpu-peek-u8-spec =
     chain-odd-even-requires
     judge-address-requires
     enum-known-x
-    enum-known-offset
-    shared-slice-read-t27
+    enum-known-found
+    peeked-plane-requires
+    stored-at-requires
+    byte-requires
     returns
     returns-2)

@@ -1,6 +1,7 @@
 -- `cpu_read_u8` answers as the machine: refused by the judge's number, else from the latches that it loads, with one counter raised.
 use Rattle.graphics_controller.proofs.Accesses.{JudgedAddress, judged, located, unlocated, access-fits, read-refused, read-done}
 use Rattle.refusals_records.proofs.Held.{map-select-fits}
+use Rattle.sequencer_masks.proofs.Laws.{stored-at-lt}
 use Rattle.machine.specs.Memory.{Memory, mem, shape}
 use Rattle.machine.proofs.Laws.{refusal-some, access-accepted}
 use Rattle.machine.specs.Address.{a0}
@@ -56,30 +57,33 @@ judge-address-requires c κs = search needs
 enum-known-x : tie.Need-enum-known-x
 enum-known-x c = search needs
 
-enum-known-offset : tie.Need-enum-known-offset
-enum-known-offset c = search needs
+enum-known-found : tie.Need-enum-known-found
+enum-known-found c = search needs
+
+stored-at-requires : tie.Need-stored-at-requires
+stored-at-requires c κs = search needs
 
 load-requires : tie.Need-load-requires
 unfolding start-of
 load-requires c κs =
-    let after-offset : tie.After-offset = search needs in
+    let after-found : tie.After-found = search needs in
     let after-judge-address : tie.After-judge-address = search needs in
     let start = start-of after-judge-address in
     let a = start .args in
     let m = lent-to start in
-    let l = located _ _ _ _ (a0 (a .address)) (address-judged after-judge-address) _ _ (after-offset .offset .given .1) in
+    let l = located _ _ _ _ (a0 (a .address)) (address-judged after-judge-address) _ _ (after-found .found .given .1) in
     let h = access-accepted (shape m) (a .gc .registers) (a .seq) (a .address) (a .page) (sym (l .accepted)) in
-    (h .shaped, omega (arith, l .offset, h .offset))
+    (h .shaped, stored-at-lt (a .seq) _ (c .stored-at .ensures) (omega (arith, l .offset, h .offset)))
 
 read-done-requires : tie.Need-read-done-requires
 unfolding start-of
 read-done-requires c κs =
-    let after-offset : tie.After-offset = search needs in
+    let after-found : tie.After-found = search needs in
     let after-judge-address : tie.After-judge-address = search needs in
     let start = start-of after-judge-address in
     let a = start .args in
     let m = lent-to start in
-    let l = located _ _ _ _ (a0 (a .address)) (address-judged after-judge-address) _ _ (after-offset .offset .given .1) in
+    let l = located _ _ _ _ (a0 (a .address)) (address-judged after-judge-address) _ _ (after-found .found .given .1) in
     let fit = access-fits (a .gc .registers) (a .seq) (shape m) (a .address) (a .page) (l .accepted) in
     map-select-fits (a .gc .registers) (fit .0)
 
@@ -96,13 +100,14 @@ returns c =
 returns-2 : tie.Need-returns-2
 unfolding start-of
 returns-2 c =
-    let after-offset : tie.After-offset = search needs in
+    let after-stored-at : tie.After-stored-at = search needs in
+    let after-found : tie.After-found = search needs in
     let after-judge-address : tie.After-judge-address = search needs in
     let start = start-of after-judge-address in
     let a = start .args in
     let m = lent-to start in
-    let l = located _ _ _ _ (a0 (a .address)) (address-judged after-judge-address) _ _ (after-offset .offset .given .1) in
-    read-done (a .gc) (a .seq) m (a .address) (a .page) _ _ _ _ (l .accepted) (l .offset) (c .before .load .ensures) (c .read-done .ensures)
+    let l = located _ _ _ _ (a0 (a .address)) (address-judged after-judge-address) _ _ (after-found .found .given .1) in
+    read-done (a .gc) (a .seq) m (a .address) (a .page) _ _ _ _ _ (l .accepted) (l .offset) (after-stored-at .stored-at .ensures) (c .before .load .ensures) (c .read-done .ensures)
 
 pub cpu-read-u8-spec : {M : Type 1} → statement M
 cpu-read-u8-spec =
@@ -115,7 +120,8 @@ cpu-read-u8-spec =
     chain-odd-even-requires
     judge-address-requires
     enum-known-x
-    enum-known-offset
+    enum-known-found
+    stored-at-requires
     load-requires
     read-done-requires
     returns

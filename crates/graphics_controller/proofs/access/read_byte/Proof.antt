@@ -17,7 +17,7 @@ selected-plane-requires c κs = search needs
 array-read-result : tie.Need-array-read-result
 array-read-result c =
     let start : tie.Start = search needs in
-    let h = select-small (start .args .registers) (start .args .address) (start .pre) in
+    let h = select-small (start .args .registers) (start .args .seq) (start .args .address) (start .args .offset) (start .pre) in
     omega (arith, c .selected-plane .ensures)
 
 enum-told-2 : tie.Need-enum-told-2

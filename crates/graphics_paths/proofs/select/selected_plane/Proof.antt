@@ -1,40 +1,20 @@
--- `selected_plane` is the map select's plane, its bit 0 replaced under odd/even: from the law of the two masks.
-use native.Mathlib.Omega.{arith}
-use mathlib.Core.Path.{sym, _∙_}
-use lib.Bits.{and-le-r}
+-- `selected_plane` hands the map select's plane to the choice that reads and peeks share.
+use mathlib.Core.Path.{ap, _∙_}
 use borrow.Author.Needs.{needs}
+use Rattle.machine.specs.Sequencer.{answersFrom}
 use Rattle.machine.specs.DataPath.{selectedPlane}
-use Rattle.fields.proofs.Bit0.{bit0-replaced, bit0-of}
 use Rattle.graphics_paths.proofs.select.selected_plane.Statement.{statement}
 use Rattle.graphics_paths.proofs.select.selected_plane.Tie as tie
 
-cast-select : tie.Need-cast-select
-cast-select c = search needs
+map-selected-requires : tie.Need-map-selected-requires
+map-selected-requires c κs = search needs
 
-odd-even-requires : tie.Need-odd-even-requires
-odd-even-requires c κs = search needs
-
-enum-told : tie.Need-enum-told
-enum-told c = search needs
-
-enum-told-2 : tie.Need-enum-told-2
-enum-told-2 c = search needs
+answers-from-requires : tie.Need-answers-from-requires
+answers-from-requires c κs = search needs
 
 returns : tie.Need-returns
 unfolding selectedPlane
-returns c =
-    let after-odd-even : tie.After-odd-even = search needs in
-    simp (sym (after-odd-even .odd-even .ensures) ∙ c .enum-told .given .1)
-
-returns-2 : tie.Need-returns-2
-unfolding selectedPlane
-returns-2 c =
-    let after-odd-even : tie.After-odd-even = search needs in
-    let start : tie.Start = search needs in
-    let a = start .args in
-    bit0-replaced (a .registers .«read_map_select») _ (omega arith) (and-le-r (a .address) 1)
-    ∙ simp (sym (after-odd-even .odd-even .ensures) ∙ c .enum-told2 .given .1, bit0-of (a .address))
+returns c = c .answers-from .ensures ∙ ap (answersFrom _ _) (c .before .map-selected .ensures)
 
 pub selected-plane-spec : {M : Type 1} → statement M
-selected-plane-spec =
-    tie.close (tie.spec cast-select odd-even-requires enum-told enum-told-2 returns returns-2)
+selected-plane-spec = tie.close (tie.spec map-selected-requires answers-from-requires returns)
