@@ -30,7 +30,7 @@ returns : tie.Need-returns
 unfolding readByte
 returns c =
     let start : tie.Start = search needs in
-    rw (c .before .enum-told .given .1) (ap (latch (start .args .t3)) (c .selected-plane .ensures))
+    rw (c .before .enum-told .given .1) (ap (latch (start .args .t4)) (c .selected-plane .ensures))
 
 returns-2 : tie.Need-returns-2
 unfolding readByte
