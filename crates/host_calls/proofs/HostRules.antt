@@ -147,7 +147,7 @@ controllerRows =
     -- refusals 2 and 3
     ∷ cpuSays (gcAt 0 3) (seqAt 0 3 2) (cpuRead 0x9FFFF false)
     ∷ cpuSays (gcAt 0 3) (seqAt 0 3 2) (cpuWrite 0xA0001 false 0x77)
-    -- accepted: the host's own byte stays; a read loads the latches and counts, a write counts
+    -- accepted: the host's own byte stays; a read loads the latches and counts, and answers plane 0 of A0000, since Memory Mode 14 has chain-four; a write counts
     ∷ gcSays (gcAt 0 3) (gcWriteAddress 4)
     ∷ gcSays (gcAt 0 3) (gcWriteData 0x1E)
     ∷ cpuSays (gcAt 0 3) (seqAt 0 3 2) (cpuRead 0xA0000 false)
@@ -174,7 +174,7 @@ controllerSaid =
     ∷ asItWas 3 0 3
     ∷ (0 ∷ 0 ∷ 1 ∷ 2 ∷ 3 ∷ 4 ∷ 5 ∷ 6 ∷ 4 ∷ 4 ∷ 3 ∷ 0 ∷ 9 ∷ 0 ∷ 1 ∷ 0 ∷ 5 ∷ 12 ∷ 0xFF ∷ 0x5A ∷ 14 ∷ 15 ∷ 16 ∷ 17 ∷ [])
     ∷ (0 ∷ 0 ∷ 1 ∷ 2 ∷ 3 ∷ 4 ∷ 5 ∷ 6 ∷ 7 ∷ 0 ∷ 14 ∷ 0 ∷ 9 ∷ 0 ∷ 1 ∷ 0 ∷ 5 ∷ 12 ∷ 0xFF ∷ 0x5A ∷ 14 ∷ 15 ∷ 16 ∷ 17 ∷ [])
-    ∷ (0 ∷ 0x22 ∷ 1 ∷ 2 ∷ 3 ∷ 4 ∷ 6 ∷ 6 ∷ 7 ∷ 0 ∷ 3 ∷ 0 ∷ 9 ∷ 0 ∷ 1 ∷ 0 ∷ 5 ∷ 12 ∷ 0xFF ∷ 0x5A ∷ 0x11 ∷ 0x22 ∷ 0x33 ∷ 0x44 ∷ [])
+    ∷ (0 ∷ 0x11 ∷ 1 ∷ 2 ∷ 3 ∷ 4 ∷ 6 ∷ 6 ∷ 7 ∷ 0 ∷ 3 ∷ 0 ∷ 9 ∷ 0 ∷ 1 ∷ 0 ∷ 5 ∷ 12 ∷ 0xFF ∷ 0x5A ∷ 0x11 ∷ 0x22 ∷ 0x33 ∷ 0x44 ∷ [])
     ∷ (0 ∷ 0 ∷ 2 ∷ 2 ∷ 3 ∷ 4 ∷ 5 ∷ 6 ∷ 7 ∷ 0 ∷ 3 ∷ 0 ∷ 9 ∷ 0 ∷ 1 ∷ 0 ∷ 5 ∷ 12 ∷ 0xFF ∷ 0x5A ∷ 14 ∷ 15 ∷ 16 ∷ 17 ∷ [])
     ∷ (0 ∷ 0 ∷ 0 ∷ 0 ∷ 0 ∷ 0 ∷ 0 ∷ 0 ∷ 0 ∷ 0 ∷ 0 ∷ 0 ∷ 0 ∷ 0 ∷ 0 ∷ 0 ∷ 0 ∷ 0 ∷ 0 ∷ 0x5A ∷ 0 ∷ 0 ∷ 0 ∷ 0 ∷ [])
     ∷ []

@@ -1,18 +1,13 @@
--- Document 01's rules on the processor's accesses that no case of the twelve reaches: windows, planes, masks, modes, counters; and K4's on reads under chain-four. As in RegisterRules, by computation.
+-- Document 01's rules on the processor's accesses that no case of the twelve reaches: windows, planes, masks, modes, counters; with K4's on reads under chain-four, which ChainFour has. As in RegisterRules, by computation.
 use Prim.Native.Nat.{ℕ}
-use mathlib.Core.Path.{_≡_, refl}
-use mathlib.Core.Bool.{Bool, true, false}
+use mathlib.Core.Path.{_≡_, refl, ap₂}
+use mathlib.Core.Bool.{false}
 use mathlib.Core.List.{List, [], _∷_, _++_}
 use lib.ListN.{replicate}
-use Rattle.machine.specs.Calls.{readU8, readGlyph, readLinear, serializeLinear, writeU8, seqCpuReadU8, seqPeekU8, gcReset, gcReadData, cpuRead, cpuPeek, cpuWrite, serialize}
-use Rattle.machine.specs.Step.{Call, vram, direct, graphics, cpu}
-use Rattle.machine.proofs.Computed.{computed}
-use Rattle.machine.proofs.Worked.{startOf, start, gcTo, seqTo, saysFrom, says, leads, each, tops, painted, firsts, case11}
-
--- the six counters after calls
-counters : List Call → List ℕ
-unfolding start computed
-counters cs = let c = computed start cs .final .gc .stats in c .«mode_0_writes» ∷ c .«mode_1_writes» ∷ c .«mode_2_writes» ∷ c .«mode_3_writes» ∷ c .«mode_0_reads» ∷ c .«mode_1_reads» ∷ []
+use Rattle.machine.specs.Calls.{writeU8, gcReset, gcReadData, cpuRead, cpuPeek, cpuWrite, serialize}
+use Rattle.machine.specs.Step.{Call, vram, graphics, cpu}
+use Rattle.machine.proofs.Worked.{gcTo, seqTo, says, leads, each, tops, counters, painted, firsts, case11}
+use Rattle.machine.proofs.ChainFour.{chainFourReads, chainFourSaid, chain-four-rules}
 
 -- so many writes and reads under a Mode
 accessed : ℕ → ℕ → ℕ → List Call
@@ -30,72 +25,9 @@ shaded : ℕ → List Call
 unfolding shading
 shaded mode = shading mode 0 4 0x3C
 
--- 10 11 12 13 in the planes at offset 4, F0 CC AA 00 at 5; the 64K window, map select 2, Memory Mode so: 4 is sequential, 8 chain-four, 12 both
-coloured : ℕ → List Call
-unfolding gcTo seqTo
-coloured memoryMode =
-    gcTo 6 4
-    ++ (gcTo 4 2
-    ++ (seqTo 4 memoryMode
-    ++ (vram (writeU8 0 4 0x10)
-    ∷ vram (writeU8 1 4 0x11)
-    ∷ vram (writeU8 2 4 0x12)
-    ∷ vram (writeU8 3 4 0x13)
-    ∷ vram (writeU8 0 5 0xF0)
-    ∷ vram (writeU8 1 5 0xCC)
-    ∷ vram (writeU8 2 5 0xAA)
-    ∷ [])))
-
--- a read and a peek of each address
-looks : Bool → List ℕ → List Call
-looks page [] = []
-looks page (x ∷ xs) = cpu (cpuRead x page) ∷ cpu (cpuPeek x page) ∷ looks page xs
-
--- the four latches after calls
-latches : List Call → List ℕ
-unfolding start computed
-latches cs = computed start cs .final .gc .latches
-
--- addresses that end in each of the four pairs of low bits
-lowBits : List ℕ
-lowBits = 0xA0004 ∷ 0xA0005 ∷ 0xA0006 ∷ 0xA0007 ∷ []
-
--- chain-four is Memory Mode's bit 3, whatever its bit 2
-chainFours : List ℕ
-chainFours = 12 ∷ 8 ∷ []
-
--- K4: with chain-four set latches load at the offset with its low two bits clear, and a selected-plane read or a peek answers from plane offset mod 4 there
-chainFourReads : List (List ℕ)
-unfolding says tops counters coloured looks latches lowBits chainFours each gcTo
-chainFourReads =
-    -- each pair of low bits
-    each (λ m. says (coloured m) (looks false lowBits)) chainFours
-    -- map select and GC odd/even are ignored
-    ∷ each (λ n. says (coloured 12 ++ (gcTo 5 0x10 ++ gcTo 4 n)) (looks false (0xA0005 ∷ 0xA0006 ∷ []))) (0 ∷ 1 ∷ 2 ∷ 3 ∷ [])
-    ∷ each (λ n. says (coloured 8 ++ gcTo 4 n) (looks false (0xA0005 ∷ 0xA0006 ∷ []))) (0 ∷ 1 ∷ 2 ∷ 3 ∷ [])
-    -- chain odd/even: the offset's bit 0 is the page bit, or bit 16 of the address, and it chooses the plane; a0 does not
-    ∷ each (λ m. says (coloured m ++ gcTo 6 6) (looks false lowBits ++ looks true lowBits)) chainFours
-    ∷ each (λ m. says (coloured m ++ gcTo 6 2) (looks true (0xA0005 ∷ 0xB0004 ∷ 0xA0007 ∷ 0xB0006 ∷ []))) chainFours
-    -- the other windows
-    ∷ each (λ m. says (coloured m ++ gcTo 6 0) (looks false (0xA0005 ∷ 0xB0006 ∷ [])) ++ says (coloured m ++ gcTo 6 14) (looks true (0xB8005 ∷ 0xB8006 ∷ []))) chainFours
-    -- all four latches, plane by plane; a peek loads none
-    ∷ each (λ m. each (λ x. latches (coloured m ++ (cpu (cpuRead x false) ∷ []))) lowBits) chainFours
-    ∷ each (λ m. latches (coloured m ++ (cpu (cpuPeek 0xA0005 false) ∷ []))) chainFours
-    -- a compare read of colour 0 compares what it loaded, whatever plane the offset names: Don't Care 1, 2, 4, 8, F, 0
-    ∷ each (λ m. each (λ n. says (coloured m ++ (gcTo 5 8 ++ gcTo 7 n)) (cpu (cpuRead 0xA0005 false) ∷ [])) (1 ∷ 2 ∷ 4 ∷ 8 ∷ 0xF ∷ 0 ∷ [])) chainFours
-    -- a copy by latches, from 5 to 2
-    ∷ tops (coloured 12 ++ (gcTo 5 1 ++ (cpu (cpuRead 0xA0005 false) ∷ cpu (cpuWrite 0xA0002 false 0) ∷ [])))
-    -- each read counts, in its mode, and no peek
-    ∷ counters (coloured 12 ++ (looks false lowBits ++ (gcTo 5 8 ++ looks false (0xA0005 ∷ []))))
-    -- shows and direct plane reads keep their plane and offset
-    ∷ each (λ m. says (coloured m) (vram (readU8 2 5) ∷ vram (readGlyph 5) ∷ direct (seqCpuReadU8 2 5 true) ∷ direct (seqPeekU8 2 5 true) ∷ [])) chainFours
-    ∷ each (λ m. says (coloured m) (vram (readLinear 40) ∷ vram (serializeLinear 5) ∷ cpu (serialize 5) ∷ [])) chainFours
-    -- with chain-four clear a read answers from the map select's plane and a peek from plane 0, at the offset
-    ∷ each (λ m. says (coloured m) (looks false (0xA0005 ∷ []))) (4 ∷ 0 ∷ [])
-    ∷ []
-
+-- document 01's, and K1's
 pub accesses : List (List ℕ)
-unfolding says tops painted counters accessed shading shaded chainFourReads each gcTo seqTo leads firsts case11
+unfolding says tops painted counters accessed shading shaded each gcTo seqTo leads firsts case11
 accesses =
     -- the windows' other ends
     leads 0 (0x9FFFF ∷ 0xA0000 ∷ 0xC0000 ∷ [])
@@ -142,7 +74,7 @@ accesses =
     ∷ firsts (vram (writeU8 3 0 0xC3) ∷ case11)
     -- each access raises its mode's counter, no peek and no show any
     ∷ counters (gcTo 6 4 ++ (accessed 0 1 5 ++ (accessed 1 2 0 ++ (accessed 2 3 0 ++ (accessed 3 4 0 ++ (accessed 8 0 6 ++ (cpu (cpuPeek 0xA0000 false) ∷ cpu (serialize 0) ∷ [])))))))
-    ∷ chainFourReads
+    ∷ []
 
 -- the function alone, And, Or, Xor, of Set/Reset 5 and latches 11, 22, 44, 88 where the mask 0C has a 1
 functionsSaid : List ℕ
@@ -150,37 +82,8 @@ functionsSaid =
     (0x1D ∷ 1 ∷ 0x22 ∷ 2 ∷ 0x4C ∷ 4 ∷ 0x80 ∷ 8 ∷ []) ++ ((0x11 ∷ 1 ∷ 0x22 ∷ 2 ∷ 0x44 ∷ 4 ∷ 0x80 ∷ 8 ∷ [])
     ++ ((0x1D ∷ 1 ∷ 0x22 ∷ 2 ∷ 0x4C ∷ 4 ∷ 0x88 ∷ 8 ∷ []) ++ (0x1D ∷ 1 ∷ 0x22 ∷ 2 ∷ 0x48 ∷ 4 ∷ 0x88 ∷ 8 ∷ [])))
 
--- an accepted read and an accepted peek that answer the same, one byte after the other
-bothSaid : List ℕ → List ℕ
-unfolding each
-bothSaid = each (λ x. 0 ∷ x ∷ 0 ∷ x ∷ [])
-
--- said once of Memory Mode 12, once of 8
-abbrev twice : List ℕ → List ℕ
-twice l = l ++ l
-
--- from the request's words: 4 to 7 answer 10 11 12 13, what the planes have at 4
-chainFourSaid : List (List ℕ)
-unfolding bothSaid each
-chainFourSaid =
-    twice (bothSaid (0x10 ∷ 0x11 ∷ 0x12 ∷ 0x13 ∷ []))
-    ∷ twice (twice (bothSaid (0x11 ∷ 0x12 ∷ [])))
-    ∷ twice (twice (bothSaid (0x11 ∷ 0x12 ∷ [])))
-    ∷ twice (bothSaid (0x10 ∷ 0x10 ∷ 0x12 ∷ 0x12 ∷ 0x11 ∷ 0x11 ∷ 0x13 ∷ 0x13 ∷ []))
-    ∷ twice (bothSaid (0x10 ∷ 0x11 ∷ 0x12 ∷ 0x13 ∷ []))
-    ∷ twice (bothSaid (0x11 ∷ 0x12 ∷ 0x11 ∷ 0x12 ∷ []))
-    ∷ twice (twice (twice (0x10 ∷ 0x11 ∷ 0x12 ∷ 0x13 ∷ [])))
-    ∷ replicate 8 0
-    ∷ twice (0 ∷ 0xEF ∷ 0 ∷ 0xEE ∷ 0 ∷ 0xED ∷ 0 ∷ 0xEC ∷ 0 ∷ 0xEC ∷ 0 ∷ 0xFF ∷ [])
-    ∷ (0 ∷ 0 ∷ 0 ∷ 0 ∷ 0x12 ∷ 0 ∷ 0 ∷ 0 ∷ [])
-    ∷ (0 ∷ 0 ∷ 0 ∷ 0 ∷ 4 ∷ 1 ∷ [])
-    ∷ twice (0 ∷ 0xAA ∷ 0 ∷ 0xAA ∷ 0 ∷ 0xAA ∷ 0 ∷ 0xAA ∷ [])
-    ∷ twice (0 ∷ 7 ∷ 0 ∷ 7 ∷ 3 ∷ 5 ∷ 1 ∷ 6 ∷ 2 ∷ 4 ∷ 0 ∷ 0 ∷ 7 ∷ 3 ∷ 5 ∷ 1 ∷ 6 ∷ 2 ∷ 4 ∷ 0 ∷ [])
-    ∷ twice (0 ∷ 0xAA ∷ 0 ∷ 0xF0 ∷ [])
-    ∷ []
-
 pub accessesSaid : List (List ℕ)
-unfolding functionsSaid chainFourSaid
+unfolding functionsSaid
 accessesSaid =
     (2 ∷ 0 ∷ 0 ∷ 0 ∷ 0 ∷ 0 ∷ 2 ∷ 0 ∷ 0 ∷ [])
     ∷ (0 ∷ 0 ∷ 0 ∷ [])
@@ -215,16 +118,20 @@ accessesSaid =
     ∷ (0x11 ∷ 0 ∷ 0x22 ∷ 0 ∷ 0x44 ∷ 0 ∷ 0x88 ∷ 0 ∷ [])
     ∷ (0xFF ∷ 0x00 ∷ 0xFF ∷ 0xC3 ∷ 0xD ∷ 0xD ∷ 5 ∷ 5 ∷ 5 ∷ 5 ∷ 0xD ∷ 0xD ∷ [])
     ∷ (1 ∷ 2 ∷ 3 ∷ 4 ∷ 5 ∷ 6 ∷ [])
-    ∷ chainFourSaid
+    ∷ []
 
-pub access-rules : accesses ≡ accessesSaid
+document-rules : accesses ≡ accessesSaid
 unfolding accesses accessesSaid
-access-rules = refl
+document-rules = refl
+
+-- with K4's
+pub access-rules : accesses ++ chainFourReads ≡ accessesSaid ++ chainFourSaid
+access-rules = ap₂ (λ (rows more : List (List ℕ)). rows ++ more) document-rules chain-four-rules
 
 -- ---- refused accesses, two by 2 and one by 3: what a refusal leaves as it was
 
 pub refusedAccesses : List (List ℕ)
-unfolding saysFrom says tops painted counters accessed shading shaded coloured looks chainFours each gcTo
+unfolding says tops painted counters accessed shading shaded each gcTo
 refusedAccesses =
     -- a refused read answers 0
     says painted (cpu (cpuRead 0xB0000 false) ∷ cpu (cpuRead 0x9FFFF false) ∷ cpu (cpuRead 0xA0008 false) ∷ [])
@@ -233,8 +140,6 @@ refusedAccesses =
     -- mode 3 is refused like the other writes, and stores nothing then
     ∷ says (shaded 3) (cpu (cpuWrite 0xB0000 false 0xF0) ∷ cpu (cpuWrite 0x9FFFF false 0xF0) ∷ cpu (cpuWrite 0xA0008 false 0xF0) ∷ [])
     ∷ tops (shaded 3 ++ (cpu (cpuWrite 0xB0000 false 0xF0) ∷ cpu (cpuWrite 0x9FFFF false 0xF0) ∷ cpu (cpuWrite 0xA0008 false 0xF0) ∷ []))
-    -- six bytes a plane under chain-four: offset 5 is read at 4; 6 is refused, though 4 is within
-    ∷ each (λ m. saysFrom (startOf 6) (coloured m) (looks false (0xA0005 ∷ 0xA0006 ∷ []) ++ (cpu (cpuWrite 0xA0006 false 0) ∷ []))) chainFours
     -- no refused access raises a counter
     ∷ counters (gcTo 6 4 ++ (accessed 0 1 1 ++ (cpu (cpuRead 0xB0000 false) ∷ cpu (cpuWrite 0x9FFFF false 0) ∷ cpu (cpuRead 0xA0008 false) ∷ cpu (cpuWrite 0xA0008 false 0) ∷ [])))
     ∷ []
@@ -244,7 +149,6 @@ pub refused-accesses : refusedAccesses
     ∷ (1 ∷ 1 ∷ 2 ∷ 2 ∷ 4 ∷ 4 ∷ 8 ∷ 8 ∷ 1 ∷ 1 ∷ 2 ∷ 2 ∷ 4 ∷ 4 ∷ 8 ∷ 8 ∷ 1 ∷ 1 ∷ 2 ∷ 2 ∷ 4 ∷ 4 ∷ 8 ∷ 8 ∷ [])
     ∷ (2 ∷ 0 ∷ 2 ∷ 0 ∷ 3 ∷ 0 ∷ [])
     ∷ (0x11 ∷ 1 ∷ 0x22 ∷ 2 ∷ 0x44 ∷ 4 ∷ 0x88 ∷ 8 ∷ [])
-    ∷ twice (0 ∷ 0x11 ∷ 0 ∷ 0x11 ∷ 3 ∷ 0 ∷ 3 ∷ 0 ∷ 3 ∷ 0 ∷ [])
     ∷ (1 ∷ 0 ∷ 0 ∷ 0 ∷ 1 ∷ 0 ∷ [])
     ∷ []
 unfolding refusedAccesses

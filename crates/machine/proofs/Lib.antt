@@ -19,5 +19,6 @@ pub mod ExampleChain
 pub mod DataPath
 pub mod RegisterRules
 pub mod DirectRules
+pub mod ChainFour
 pub mod AccessRules
 pub mod Window128K

@@ -79,6 +79,11 @@ unfoldable pub tops : List Call → List ℕ
 unfolding leaves
 tops cs = let m = leaves cs in take 2 (m .p0) ++ (take 2 (m .p1) ++ (take 2 (m .p2) ++ take 2 (m .p3)))
 
+-- the six counters after calls
+unfoldable pub counters : List Call → List ℕ
+unfolding start computed
+counters cs = let c = computed start cs .final .gc .stats in c .«mode_0_writes» ∷ c .«mode_1_writes» ∷ c .«mode_2_writes» ∷ c .«mode_3_writes» ∷ c .«mode_0_reads» ∷ c .«mode_1_reads» ∷ []
+
 -- the first byte of each plane and the first eight pixels after calls
 unfoldable pub firsts : List Call → List ℕ
 unfolding leaves
