@@ -1,6 +1,6 @@
 -- `cpu_peek_u8` answers as the machine: refused by the judge's number, else a byte where chain-four leads, and nothing moves.
 use Rattle.graphics_controller.proofs.Accesses.{JudgedAddress, judged, located, unlocated, peeked-small, peek-refused, peek-done}
-use Rattle.sequencer_masks.proofs.Laws.{stored-at-lt}
+use Rattle.sequencer_masks.proofs.Laws.{stored-at-le}
 use Rattle.machine.specs.Memory.{Memory, mem, shape}
 use Rattle.machine.proofs.Laws.{refusal-some, access-accepted}
 use Rattle.machine.specs.Address.{a0}
@@ -76,7 +76,10 @@ byte-requires c κs =
     let m = lent-to start in
     let l = located _ _ _ _ (a0 (a .address)) (address-judged after-judge-address) _ _ (after-found .found .given .1) in
     let h = access-accepted (shape m) (a .gc .registers) (a .seq) (a .address) (a .page) (sym (l .accepted)) in
-    (h .shaped, (stored-at-lt (a .seq) _ (c .stored-at .ensures) (omega (arith, l .offset, h .offset)), rw (after-peeked-plane .peeked-plane .ensures) (peeked-small (a .seq) _)))
+    let o = after-found .found .given .0 .0 .0 in (
+      h .shaped,
+      (omega (arith, c .stored-at .ensures, stored-at-le (a .seq) o, l .offset, h .offset), omega (arith, after-peeked-plane .peeked-plane .ensures, peeked-small (a .seq) o)),
+    )
 
 returns : tie.Need-returns
 unfolding start-of

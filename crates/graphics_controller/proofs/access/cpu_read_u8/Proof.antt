@@ -1,7 +1,7 @@
 -- `cpu_read_u8` answers as the machine: refused by the judge's number, else from the latches that it loads, with one counter raised.
 use Rattle.graphics_controller.proofs.Accesses.{JudgedAddress, judged, located, unlocated, access-fits, read-refused, read-done}
 use Rattle.refusals_records.proofs.Held.{map-select-fits}
-use Rattle.sequencer_masks.proofs.Laws.{stored-at-lt}
+use Rattle.sequencer_masks.proofs.Laws.{stored-at-le}
 use Rattle.machine.specs.Memory.{Memory, mem, shape}
 use Rattle.machine.proofs.Laws.{refusal-some, access-accepted}
 use Rattle.machine.specs.Address.{a0}
@@ -73,7 +73,7 @@ load-requires c κs =
     let m = lent-to start in
     let l = located _ _ _ _ (a0 (a .address)) (address-judged after-judge-address) _ _ (after-found .found .given .1) in
     let h = access-accepted (shape m) (a .gc .registers) (a .seq) (a .address) (a .page) (sym (l .accepted)) in
-    (h .shaped, stored-at-lt (a .seq) _ (c .stored-at .ensures) (omega (arith, l .offset, h .offset)))
+    (h .shaped, omega (arith, c .stored-at .ensures, stored-at-le (a .seq) (after-found .found .given .0 .0 .0), l .offset, h .offset))
 
 read-done-requires : tie.Need-read-done-requires
 unfolding start-of
