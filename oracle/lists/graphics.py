@@ -365,6 +365,12 @@ def chain_four():
         masked(15, memory_mode)
         of_mode(0, (4, 2))
         look(0xA0005)
+    case("with chain-four clear, GC odd/even and chain odd/even: a0 leads map select 2 to plane 2 or 3, at the offset whose bit 0 is the page bit, or bit 16 of the address")
+    masked()
+    for miscellaneous, firsts in (6, [0xA0000]), (2, [0xA0000, 0xB0000]):
+        of_mode(0x10, (6, miscellaneous), (4, 2))
+        for first in firsts:
+            each_low_bits(first)
     for memory_mode in 12, 8:
         masked(15, memory_mode)
         every_window(memory_mode)

@@ -71,6 +71,8 @@ chainFourReads =
     ∷ each (λ m. says (coloured m) (vram (readLinear 40) ∷ vram (serializeLinear 5) ∷ cpu (serialize 5) ∷ [])) chainFours
     -- with chain-four clear a read answers from the map select's plane and a peek from plane 0, at the offset
     ∷ each (λ m. says (coloured m) (looks false (0xA0005 ∷ []))) (4 ∷ 0 ∷ [])
+    -- .. and under GC odd/even it is a0 that leads map select 2 to plane 2 or 3, where chain odd/even gives the offset another bit 0
+    ∷ each (λ m. says (coloured m ++ (gcTo 5 0x10 ++ gcTo 6 6)) (looks true (0xA0004 ∷ []) ++ looks false (0xA0005 ∷ []))) (4 ∷ 0 ∷ [])
     -- refusal 3 looks at the offset before its low bits are cleared: of six bytes a plane 5 is read at 4, and 6 is refused, though 4 is within
     ∷ each (λ m. saysFrom (startOf 6) (coloured m) (looks false (0xA0005 ∷ 0xA0006 ∷ []) ++ (cpu (cpuWrite 0xA0006 false 0) ∷ []))) chainFours
     ∷ []
@@ -102,6 +104,7 @@ chainFourSaid =
     ∷ twice (0 ∷ 0xAA ∷ 0 ∷ 0xAA ∷ 0 ∷ 0xAA ∷ 0 ∷ 0xAA ∷ [])
     ∷ twice (0 ∷ 7 ∷ 0 ∷ 7 ∷ 3 ∷ 5 ∷ 1 ∷ 6 ∷ 2 ∷ 4 ∷ 0 ∷ 0 ∷ 7 ∷ 3 ∷ 5 ∷ 1 ∷ 6 ∷ 2 ∷ 4 ∷ 0 ∷ [])
     ∷ twice (0 ∷ 0xAA ∷ 0 ∷ 0xF0 ∷ [])
+    ∷ twice (0 ∷ 0xAA ∷ 0 ∷ 0xF0 ∷ 0 ∷ 0x13 ∷ 0 ∷ 0x10 ∷ [])
     ∷ twice (0 ∷ 0x11 ∷ 0 ∷ 0x11 ∷ 3 ∷ 0 ∷ 3 ∷ 0 ∷ 3 ∷ 0 ∷ [])
     ∷ []
 

@@ -213,13 +213,13 @@ together = isolation 3 calls cheap dear alike obeyed
 
 -- ---- the counters: five accepted accesses, the refused one and the peeks left out
 
-counted-five : total (computed cheap calls .final .gc .stats) ≡ 5
+sum-counted : total (computed cheap calls .final .gc .stats) ≡ 5
 unfolding cheap calls gcTo seqTo computed
-counted-five = refl
+sum-counted = refl
 
-tallied-five : tally 0 cheap calls ≡ 5
+sum-tallied : tally 0 cheap calls ≡ 5
 unfolding tally counts cheap calls gcTo seqTo computed
-tallied-five = refl
+sum-tallied = refl
 
 -- ---- the picture: the stored offset's eight pixels move, the other eight stay
 
