@@ -5,7 +5,7 @@ use mathlib.Core.Path.{_≡_, refl, sym, ap, _∙_}
 use mathlib.Core.Bool.{Bool, true, false}
 use mathlib.Core.List.{List, []}
 use lib.Dec.{ltb}
-use lib.ListN.{getD, take, drop}
+use lib.ListN.{take, drop}
 use borrow.Author.Tests.{ltb-true}
 use Rattle.bits.specs.Bit.{bitOf, pick}
 use Rattle.machine_types.specs.declared.answer.Refusal.{Refusal}
