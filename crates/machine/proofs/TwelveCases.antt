@@ -76,7 +76,7 @@ document =
     ∷ (0 ∷ 0xFF ∷ [])
     ∷ []
 
--- the twelve, and K4's
+-- document 01's twelve, and a thirteenth, which K4 added
 pub twelve-cases : cases ≡ document
 unfolding cases document
 twelve-cases = refl
