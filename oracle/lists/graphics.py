@@ -410,13 +410,14 @@ def every_select(memory_mode):
 
 
 def copied(memory_mode):
-    case(f"Memory Mode {memory_mode}, write mode 1: A0007 is read, which loads 10 11 12 13, and each of A0002 to A0005 written; then A0005 is read back, after FF was written there")
+    case(f"Memory Mode {memory_mode}, write mode 1: A0007 is read, which loads 10 11 12 13, and each of A0008 to A000B written; then A0005 is read back, after FF was written there")
+    lend_all(12)
     of_mode(1)
     call(38, 0xA0007, 0)
-    for at in range(2, 6):
-        write(0xA0000 + at, 0xFF, 8, at - at % 4)
+    for at in range(8, 12):
+        write(0xA0000 + at, 0xFF, 12, 8)
     of_mode(0, (8, 0xFF))
-    write(0xA0005, 0xFF, 8, 4)
+    write(0xA0005, 0xFF, 12, 4)
     look(0xA0005)
     coloured()
 
