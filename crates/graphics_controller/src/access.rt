@@ -72,7 +72,8 @@ fn read_done(
 ) -> CpuByte
     requires { ⌜ gc .registers .«read_map_select» ≤ 3 ⌝ }
     ensures { λ r. ⌜ outcome (byteSaid (r .answer)) (r .gc)
-        ≡ outcome (said 0 (one (readByte (readMode (gc .registers)) (gc .registers) seq address offset latches))) (gcOf (gc .registers) (counted (readCounter (readMode (gc .registers))) (gc .stats)) latches) ⌝ }
+        ≡ outcome (said 0 (one (readByte (readMode (gc .registers)) (gc .registers) seq address offset latches)))
+        (gcOf (gc .registers) (counted (readCounter (readMode (gc .registers))) (gc .stats)) latches) ⌝ }
 {
     let registers = gc.registers;
     let mode = fields::gc::read_mode(registers);

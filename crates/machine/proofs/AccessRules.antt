@@ -1,4 +1,5 @@
--- Document 01's rules on the processor's accesses that no case of the twelve reaches: windows, planes, masks, modes, counters; with K4's on reads under chain-four, which ChainFour has. As in RegisterRules, by computation.
+-- Document 01's rules on the processor's accesses that no case of the twelve reaches: windows, planes, masks, modes, counters; with K4's on reads under chain-four,
+-- which ChainFour has. As in RegisterRules, by computation.
 use Prim.Native.Nat.{ℕ}
 use mathlib.Core.Path.{_≡_, refl, ap₂}
 use mathlib.Core.Bool.{false}

@@ -4,7 +4,8 @@ use mathlib.Core.Path.{_≡_, refl}
 use mathlib.Core.Bool.{Bool, true, false}
 use mathlib.Core.List.{List, [], _∷_, _++_}
 use lib.ListN.{replicate}
-use Rattle.machine.specs.Calls.{readU8, readGlyph, readLinear, serializeLinear, writeU8, seqCpuReadU8, seqPeekU8, cpuRead, cpuPeek, cpuWrite, serialize}
+use Rattle.machine.specs.Calls.{readU8, peekU8, readGlyph, readLinear, serializeLinear, writeU8, seqCpuReadU8, seqPeekU8, seqReadLinear, seqSerializeLinear}
+use Rattle.machine.specs.Calls.{cpuRead, cpuPeek, cpuWrite, serialize}
 use Rattle.machine.specs.Step.{Call, vram, direct, cpu}
 use Rattle.machine.proofs.Computed.{computed}
 use Rattle.machine.proofs.Worked.{startOf, start, gcTo, seqTo, saysFrom, says, each, tops, counters}
@@ -67,8 +68,8 @@ chainFourReads =
     -- each read counts, in its mode, and no peek
     ∷ counters (coloured 12 ++ (looks false lowBits ++ (gcTo 5 8 ++ looks false (0xA0005 ∷ []))))
     -- shows and direct plane reads keep their plane and offset
-    ∷ each (λ m. says (coloured m) (vram (readU8 2 5) ∷ vram (readGlyph 5) ∷ direct (seqCpuReadU8 2 5 true) ∷ direct (seqPeekU8 2 5 true) ∷ [])) chainFours
-    ∷ each (λ m. says (coloured m) (vram (readLinear 40) ∷ vram (serializeLinear 5) ∷ cpu (serialize 5) ∷ [])) chainFours
+    ∷ each (λ m. says (coloured m) (vram (readU8 2 5) ∷ vram (peekU8 2 5) ∷ vram (readGlyph 5) ∷ direct (seqCpuReadU8 2 5 true) ∷ direct (seqPeekU8 2 5 true) ∷ [])) chainFours
+    ∷ each (λ m. says (coloured m) (vram (readLinear 40) ∷ direct (seqReadLinear 40) ∷ vram (serializeLinear 5) ∷ direct (seqSerializeLinear 5) ∷ cpu (serialize 5) ∷ [])) chainFours
     -- with chain-four clear a read answers from the map select's plane and a peek from plane 0, at the offset
     ∷ each (λ m. says (coloured m) (looks false (0xA0005 ∷ []))) (4 ∷ 0 ∷ [])
     -- .. and under GC odd/even it is a0 that leads map select 2 to plane 2 or 3, where chain odd/even gives the offset another bit 0
@@ -86,6 +87,10 @@ bothSaid = each (λ x. 0 ∷ x ∷ 0 ∷ x ∷ [])
 abbrev twice : List ℕ → List ℕ
 twice l = l ++ l
 
+-- a show of offset 5: 0, and F0 CC AA 00 as pixels
+abbrev shown : List ℕ
+shown = 0 ∷ 7 ∷ 3 ∷ 5 ∷ 1 ∷ 6 ∷ 2 ∷ 4 ∷ 0 ∷ []
+
 -- from the request's words: 4 to 7 answer 10 11 12 13, what the planes have at 4
 pub chainFourSaid : List (List ℕ)
 unfolding bothSaid each
@@ -101,8 +106,8 @@ chainFourSaid =
     ∷ twice (0 ∷ 0xEF ∷ 0 ∷ 0xEE ∷ 0 ∷ 0xED ∷ 0 ∷ 0xEC ∷ 0 ∷ 0xEC ∷ 0 ∷ 0xFF ∷ [])
     ∷ (0 ∷ 0 ∷ 0 ∷ 0 ∷ 0x12 ∷ 0 ∷ 0 ∷ 0 ∷ [])
     ∷ (0 ∷ 0 ∷ 0 ∷ 0 ∷ 4 ∷ 1 ∷ [])
-    ∷ twice (0 ∷ 0xAA ∷ 0 ∷ 0xAA ∷ 0 ∷ 0xAA ∷ 0 ∷ 0xAA ∷ [])
-    ∷ twice (0 ∷ 7 ∷ 0 ∷ 7 ∷ 3 ∷ 5 ∷ 1 ∷ 6 ∷ 2 ∷ 4 ∷ 0 ∷ 0 ∷ 7 ∷ 3 ∷ 5 ∷ 1 ∷ 6 ∷ 2 ∷ 4 ∷ 0 ∷ [])
+    ∷ twice (0 ∷ 0xAA ∷ 0 ∷ 0xAA ∷ 0 ∷ 0xAA ∷ 0 ∷ 0xAA ∷ 0 ∷ 0xAA ∷ [])
+    ∷ twice (0 ∷ 7 ∷ 0 ∷ 7 ∷ (shown ++ (shown ++ shown)))
     ∷ twice (0 ∷ 0xAA ∷ 0 ∷ 0xF0 ∷ [])
     ∷ twice (0 ∷ 0xAA ∷ 0 ∷ 0xF0 ∷ 0 ∷ 0x13 ∷ 0 ∷ 0x10 ∷ [])
     ∷ twice (0 ∷ 0x11 ∷ 0 ∷ 0x11 ∷ 3 ∷ 0 ∷ 3 ∷ 0 ∷ 3 ∷ 0 ∷ [])

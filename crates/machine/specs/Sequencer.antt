@@ -128,7 +128,7 @@ unfoldable pub inMask : Sequencer → ℕ → Bool → ℕ → Bool
 inMask s o a0 p = pick (chainFour s) (eqb p (o % 4))
     (isOne (bit p (s .«map_mask»)) && pick (isSeqOddEven (seqOddEven s)) (isOne (bit p (5 * 2 ^ bitOf a0))) true)
 
--- chain-four stores at the offset with its low two bits clear
+-- chain-four stores at the offset with its low two bits clear; by K4 the processor's reads and peeks look there too
 unfoldable pub storedAt : Sequencer → ℕ → ℕ
 storedAt s o = pick (chainFour s) (o / 4 * 4) o
 
