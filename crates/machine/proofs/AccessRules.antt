@@ -73,7 +73,7 @@ accesses =
     ∷ tops (painted ++ (cpu (cpuRead 0xA0000 false) ∷ graphics gcReset ∷ (gcTo 6 4 ++ (gcTo 5 1 ++ (cpu (cpuWrite 0xA0001 false 0xF0) ∷ [])))))
     -- case 11 over a plane 3 that holds C3: Map Mask 7 leaves it alone, and bit 3 of the pixels is its
     ∷ firsts (vram (writeU8 3 0 0xC3) ∷ case11)
-    -- each access raises its mode's counter, no peek and no show any
+    -- each access raises its mode's counter and no other, no peek and no show any
     ∷ counters (gcTo 6 4 ++ (accessed 0 1 5 ++ (accessed 1 2 0 ++ (accessed 2 3 0 ++ (accessed 3 4 0 ++ (accessed 8 0 6 ++ (cpu (cpuPeek 0xA0000 false) ∷ cpu (serialize 0) ∷ [])))))))
     ∷ []
 
@@ -114,11 +114,11 @@ accessesSaid =
     ∷ (0x1D ∷ 1 ∷ 0x22 ∷ 0x22 ∷ 0x4C ∷ 4 ∷ 0x88 ∷ 0x80 ∷ [])
     ∷ (0x11 ∷ 1 ∷ 0x22 ∷ 2 ∷ 0x4C ∷ 4 ∷ 0x88 ∷ 8 ∷ [])
     ∷ (0x11 ∷ 1 ∷ 0x22 ∷ 0x22 ∷ 0x44 ∷ 0x4C ∷ 0x88 ∷ 8 ∷ 0x11 ∷ 1 ∷ 0x22 ∷ 2 ∷ 0x44 ∷ 4 ∷ 0x88 ∷ 8 ∷ [])
-    ∷ (0 ∷ 0 ∷ 0 ∷ 2 ∷ 1 ∷ 0 ∷ [])
+    ∷ (0 ∷ 0 ∷ 0 ∷ 2 ∷ 1 ∷ 0 ∷ 0 ∷ [])
     ∷ (0 ∷ 0x3C ∷ [])
     ∷ (0x11 ∷ 0 ∷ 0x22 ∷ 0 ∷ 0x44 ∷ 0 ∷ 0x88 ∷ 0 ∷ [])
     ∷ (0xFF ∷ 0x00 ∷ 0xFF ∷ 0xC3 ∷ 0xD ∷ 0xD ∷ 5 ∷ 5 ∷ 5 ∷ 5 ∷ 0xD ∷ 0xD ∷ [])
-    ∷ (1 ∷ 2 ∷ 3 ∷ 4 ∷ 5 ∷ 6 ∷ [])
+    ∷ (1 ∷ 2 ∷ 3 ∷ 4 ∷ 5 ∷ 6 ∷ 0 ∷ [])
     ∷ []
 
 document-rules : accesses ≡ accessesSaid
@@ -129,7 +129,7 @@ document-rules = refl
 pub access-rules : accesses ++ chainFourReads ≡ accessesSaid ++ chainFourSaid
 access-rules = ap₂ (λ (rows more : List (List ℕ)). rows ++ more) document-rules chain-four-rules
 
--- ---- refused accesses, two by 2 and one by 3: what a refusal leaves as it was
+-- ---- refused accesses, two by 2 and one by 3: what a refusal leaves as it was. TurnedAway has what it counts
 
 pub refusedAccesses : List (List ℕ)
 unfolding says tops painted counters accessed shading shaded each gcTo
@@ -141,7 +141,7 @@ refusedAccesses =
     -- mode 3 is refused like the other writes, and stores nothing then
     ∷ says (shaded 3) (cpu (cpuWrite 0xB0000 false 0xF0) ∷ cpu (cpuWrite 0x9FFFF false 0xF0) ∷ cpu (cpuWrite 0xA0008 false 0xF0) ∷ [])
     ∷ tops (shaded 3 ++ (cpu (cpuWrite 0xB0000 false 0xF0) ∷ cpu (cpuWrite 0x9FFFF false 0xF0) ∷ cpu (cpuWrite 0xA0008 false 0xF0) ∷ []))
-    -- no refused access raises a counter
+    -- no refused access raises its mode's counter: K8's alone
     ∷ counters (gcTo 6 4 ++ (accessed 0 1 1 ++ (cpu (cpuRead 0xB0000 false) ∷ cpu (cpuWrite 0x9FFFF false 0) ∷ cpu (cpuRead 0xA0008 false) ∷ cpu (cpuWrite 0xA0008 false 0) ∷ [])))
     ∷ []
 
@@ -150,7 +150,7 @@ pub refused-accesses : refusedAccesses
     ∷ (1 ∷ 1 ∷ 2 ∷ 2 ∷ 4 ∷ 4 ∷ 8 ∷ 8 ∷ 1 ∷ 1 ∷ 2 ∷ 2 ∷ 4 ∷ 4 ∷ 8 ∷ 8 ∷ 1 ∷ 1 ∷ 2 ∷ 2 ∷ 4 ∷ 4 ∷ 8 ∷ 8 ∷ [])
     ∷ (2 ∷ 0 ∷ 2 ∷ 0 ∷ 3 ∷ 0 ∷ [])
     ∷ (0x11 ∷ 1 ∷ 0x22 ∷ 2 ∷ 0x44 ∷ 4 ∷ 0x88 ∷ 8 ∷ [])
-    ∷ (1 ∷ 0 ∷ 0 ∷ 0 ∷ 1 ∷ 0 ∷ [])
+    ∷ (1 ∷ 0 ∷ 0 ∷ 0 ∷ 1 ∷ 0 ∷ 4 ∷ [])
     ∷ []
 unfolding refusedAccesses
 refused-accesses = refl

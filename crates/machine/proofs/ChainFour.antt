@@ -105,7 +105,7 @@ chainFourSaid =
     ∷ replicate 8 0
     ∷ twice (0 ∷ 0xEF ∷ 0 ∷ 0xEE ∷ 0 ∷ 0xED ∷ 0 ∷ 0xEC ∷ 0 ∷ 0xEC ∷ 0 ∷ 0xFF ∷ [])
     ∷ (0 ∷ 0 ∷ 0 ∷ 0 ∷ 0x12 ∷ 0 ∷ 0 ∷ 0 ∷ [])
-    ∷ (0 ∷ 0 ∷ 0 ∷ 0 ∷ 4 ∷ 1 ∷ [])
+    ∷ (0 ∷ 0 ∷ 0 ∷ 0 ∷ 4 ∷ 1 ∷ 0 ∷ [])
     ∷ twice (0 ∷ 0xAA ∷ 0 ∷ 0xAA ∷ 0 ∷ 0xAA ∷ 0 ∷ 0xAA ∷ 0 ∷ 0xAA ∷ [])
     ∷ twice (0 ∷ 7 ∷ 0 ∷ 7 ∷ (shown ++ (shown ++ shown)))
     ∷ twice (0 ∷ 0xAA ∷ 0 ∷ 0xF0 ∷ [])

@@ -18,7 +18,7 @@ use Rattle.machine.specs.Calls.{gcReset, gcChain, gcChain4, gcMemoryMap,
 use Rattle.machine.specs.Calls.{cpuRead, cpuPeek, cpuWrite, serialize}
 use Rattle.machine.specs.Step.{State, Call, vram, sequencer, direct, graphics, cpu}
 use Rattle.machine.specs.Isolation.{Alike, Obeys, Along, Throughout}
-use Rattle.machine.specs.Claims.{total, counts, tally, Matches}
+use Rattle.machine.specs.Claims.{total, sevenTotal, countsWhere, tallyWhere, tally, sevenTally, Matches}
 use Rattle.machine.proofs.Isolation.{isolation}
 use Rattle.machine.proofs.Computed.{computed}
 use Rattle.machine.proofs.Worked.{gcTo, seqTo, aNumber, aPixel, aShow}
@@ -211,15 +211,23 @@ obeyed = quiet-obeys 3 calls cheap (unfold quiet calls gcTo seqTo cheap computed
 pub together : Throughout 3 cheap dear calls
 together = isolation 3 calls cheap dear alike obeyed
 
--- ---- the counters: five accepted accesses, the refused one and the peeks left out
+-- ---- the counters: five accepted accesses, and of the seven the refused read besides; no peek, refused or not
 
 sum-counted : total (computed cheap calls .final .gc .stats) ≡ 5
 unfolding cheap calls gcTo seqTo computed
 sum-counted = refl
 
 sum-tallied : tally 0 cheap calls ≡ 5
-unfolding tally counts cheap calls gcTo seqTo computed
+unfolding tallyWhere countsWhere cheap calls gcTo seqTo computed
 sum-tallied = refl
+
+seven-counted : sevenTotal (computed cheap calls .final .gc .stats) ≡ 6
+unfolding cheap calls gcTo seqTo computed
+seven-counted = refl
+
+seven-tallied : sevenTally 0 cheap calls ≡ 6
+unfolding tallyWhere countsWhere cheap calls gcTo seqTo computed
+seven-tallied = refl
 
 -- ---- the picture: the stored offset's eight pixels move, the other eight stay
 

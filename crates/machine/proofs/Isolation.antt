@@ -26,8 +26,8 @@ use Rattle.machine.specs.Calls.{VramCall, readU8, peekU8, readGlyph, rea
 use Rattle.machine.specs.Calls.{DirectCall, seqCpuReadU8, seqPeekU8, seqGcReadU8, seqReadLinear, seqSerializeLinear, seqPlaneSet, seqPlaneAnd, seqPlaneOr, directPlan}
 use Rattle.machine.specs.Calls.{GraphicsCall, gcReset, gcChain, gcChain4, gcMemoryMap, gcOddEven, gcShiftMode, gcReadAddress, gcReadData, gcWriteAddress}
 use Rattle.machine.specs.Calls.{gcWriteData, gcMapAddress, gcNumberOf, gcValue, gcNext}
-use Rattle.machine.specs.Calls.{CpuCall, cpuRead, cpuPeek, cpuWrite, serialize, CpuPlan, cpuPlan, readReply, counted}
-use Rattle.machine.specs.Step.{vramStep, sequencerStep, directStep, graphicsStep, Device, device, cpuAfter, cpuPerform, cpuStep, State, Call, vram, sequencer}
+use Rattle.machine.specs.Calls.{CpuCall, cpuRead, cpuPeek, cpuWrite, serialize, CpuPlan, cpuPlan, readReply, refusalCounter, counted}
+use Rattle.machine.specs.Step.{vramStep, sequencerStep, directStep, graphicsStep, Device, cpuAfter, cpuRefused, cpuPerform, cpuStep, State, Call, vram, sequencer}
 use Rattle.machine.specs.Step.{direct, graphics, cpu, lifted, step}
 use Rattle.machine.specs.Isolation.{Agree, Both, none, more, AlikeMemory, AlikeLatches, AlikeGc, Alike, vramNotFrom, directNotFrom, selectedNotFrom, cpuNotFrom}
 use Rattle.machine.specs.Isolation.{NotFrom, comparedWithout, cpuWithout, ComparesWithout, cpuNoPeek, NoPeek, Obeys, Along}
@@ -251,15 +251,16 @@ module _ (k : ℕ) where
     memory : AlikeMemory k (d .memory) (e .memory)
 
   module _ (g h : GraphicsController) (m n : Memory) (c : AlikeGc k g h) (e : AlikeMemory k m n) where
-    cpu-performed : (a b : CpuPlan) → AlikePlan k (a .ask) (b .ask) → a .counter ≡ b .counter → (a .ask .number ≡ 0 → Silent k (a .ask .reply))
+    -- both raise the same counter, where they are accepted and where they are refused
+    cpu-performed : (a b : CpuPlan) → AlikePlan k (a .ask) (b .ask) → a .counter ≡ b .counter → a .turnedAway ≡ b .turnedAway → (a .ask .number ≡ 0 → Silent k (a .ask .reply))
         → Together k AlikeDevice (cpuPerform a g m) (cpuPerform b h n)
-    cpu-performed a b q i s =
+    cpu-performed a b q i j s =
         let after = memory-after m n e (g .latches) (h .latches) (c .latches) (q .deed) in
         let held = latches-after m n e (g .latches) (h .latches) (c .latches) (q .deed) in
-        answered-alike AlikeDevice _ _ (cpuAfter a g m) (cpuAfter b h n) (device g m) (device h n) (a .ask .number) (b .ask .number) (q .number)
+        answered-alike AlikeDevice _ _ (cpuAfter a g m) (cpuAfter b h n) (cpuRefused a g m) (cpuRefused b h n) (a .ask .number) (b .ask .number) (q .number)
         (λ z. value-same _ _ after _ _ held (q .reply) (s z)) (blank-same _ _ after _ _ held (q .reply))
         (record { gc = record { registers = c .registers; stats = ap₂ counted i (c .stats); latches = held }; memory = after })
-        (record { gc = c; memory = e })
+        (record { gc = record { registers = c .registers; stats = ap₂ counted (ap₂ refusalCounter (q .number) j) (c .stats); latches = c .latches }; memory = e })
 
   -- ---- the plans of two alike states
 
@@ -341,7 +342,7 @@ module _ (k : ℕ) where
     step-together (cpu c) h =
         lifted-alike _ _ _ _ (λ x y e. record { gc = e .gc; seq = a .seq; memory = e .memory })
         (cpu-performed (s .gc) (t .gc) (s .memory) (t .memory) (a .gc) (a .memory) _ _
-        (plan-alike _ _ (ap (λ p. p .ask) (cpu-same c))) (ap (λ p. p .counter) (cpu-same c)) h)
+        (plan-alike _ _ (ap (λ p. p .ask) (cpu-same c))) (ap (λ p. p .counter) (cpu-same c)) (ap (λ p. p .turnedAway) (cpu-same c)) h)
 
   -- ---- the mission's premise makes each reply silent
 

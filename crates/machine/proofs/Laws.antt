@@ -2,10 +2,11 @@
 use Prim.Native.Nat.{ℕ, zero, suc, _*_, _≤_, _<_}
 use native.Mathlib.Omega.{arith}
 use mathlib.Core.Path.{_≡_, refl}
-use mathlib.Core.Bool.{Bool, true, false, _&&_}
+use mathlib.Core.Bool.{Bool, true, false, _&&_, _||_}
 use mathlib.Core.List.{[]}
 use lib.Dec.{eqb, ltb}
 use borrow.Author.Tests.{ltb-true, leb-true, eqb-true}
+use Rattle.bits.specs.Bit.{pick}
 use Rattle.machine_types.specs.declared.answer.Refusal.{Refusal}
 use Rattle.machine_types.specs.declared.answer.Refusal.the-variants.{Memory as NoMemory, Window, Offset, Plane, Place, State, Damaged, Range, Shift, Room}
 use Rattle.machine_types.specs.declared.gc.GraphicsRegisters.{GraphicsRegisters}
@@ -16,7 +17,7 @@ use Rattle.machine.specs.Answers.{refusalNumber, Value, blank, said, out
 use Rattle.machine.specs.Graphics.{memoryMap}
 use Rattle.machine.specs.Address.{inWindow, offset}
 use Rattle.machine.specs.Deeds.{Plan, perform, memoryAfter, valueOf, laid, remade, stored}
-use Rattle.machine.specs.Calls.{refuse, offsetNumber, planeNumber, placeNumber, shownNumber, accessNumber, fitsBoth}
+use Rattle.machine.specs.Calls.{refuse, offsetNumber, planeNumber, placeNumber, shownNumber, accessNumber, fitsBoth, noCounter, refusalCounter}
 
 -- ---- an answer by its number
 
@@ -39,6 +40,14 @@ perform-done a m m′ v e g h = answered-done (a .number) _ v _ m′ m e (rw (�
 pub perform-refused : (a : Plan) (m : Memory) (k : ℕ) (v : Value) → 0 < k → k ≡ a .number → v ≡ blank (valueOf (a .reply) [] (memoryAfter (a .deed) [] m)) → outcome (said k v) m ≡ perform a m
 unfolding perform
 perform-refused a m k v h e f = answered-refused k (a .number) _ v _ m h e f
+
+-- a call that names no counter for its refusals raises none, whatever the number
+pub none-raised : (n : ℕ) → refusalCounter n noCounter ≡ noCounter
+none-raised n = go (eqb n 2 || eqb n 3)
+  where
+    go : (t : Bool) → pick t noCounter noCounter ≡ noCounter
+    go true = refl
+    go false = refl
 
 -- no refusal has number 0
 pub refusal-some : (r : Refusal) → 0 < refusalNumber r

@@ -21,4 +21,5 @@ pub mod RegisterRules
 pub mod DirectRules
 pub mod ChainFour
 pub mod AccessRules
+pub mod TurnedAway
 pub mod Window128K

@@ -14,7 +14,7 @@ use Rattle.machine.specs.Memory.{Memory, plane, shape}
 use Rattle.machine.specs.Answers.{Value, answered}
 use Rattle.machine.specs.Deeds.{Deed, rest, load, store, remake, byte, pixelOf, eight, remade, storedByte, laid, any, stored, memoryAfter, perform}
 use Rattle.machine.specs.Calls.{vramPlan, directPlan, cpuPlan}
-use Rattle.machine.specs.Step.{vramStep, directStep, cpuStep, Device, device, State, Call, vram, sequencer, direct, graphics, cpu, step, run}
+use Rattle.machine.specs.Step.{vramStep, directStep, cpuStep, Device, cpuRefused, State, Call, vram, sequencer, direct, graphics, cpu, step, run}
 use Rattle.machine.specs.Isolation.{accepted}
 use Rattle.machine.specs.Claims.{Matches, MovesAt, deedOf}
 use Rattle.machine.proofs.Laws.{answered-number}
@@ -142,7 +142,7 @@ step-matches s (direct c) h =
 step-matches s (graphics c) h = h
 step-matches s (cpu c) h =
     let a = cpuPlan (s .gc .registers) (s .seq) (shape (s .memory)) c in
-    answered-next (λ (d : Device). Matches (d .memory)) (a .ask .number) _ _ (device (s .gc) (s .memory)) (λ z. after-matches (a .ask .deed) (s .gc .latches) (s .memory) h) h
+    answered-next (λ (d : Device). Matches (d .memory)) (a .ask .number) _ _ (cpuRefused a (s .gc) (s .memory)) (λ z. after-matches (a .ask .deed) (s .gc .latches) (s .memory) h) h
 
 pub picture-matches : (cs : List Call) (s : State) → Matches (s .memory) → Matches (run s cs .final .memory)
 unfolding run
@@ -177,5 +177,5 @@ pixels-stay s (direct c) j h =
 pixels-stay s (graphics c) j h = refl
 pixels-stay s (cpu c) j h =
     let a = cpuPlan (s .gc .registers) (s .seq) (shape (s .memory)) c in
-    answered-next (λ (d : Device). getD (d .memory .picture) j 0 ≡ getD (s .memory .picture) j 0) (a .ask .number) _ _ (device (s .gc) (s .memory))
+    answered-next (λ (d : Device). getD (d .memory .picture) j 0 ≡ getD (s .memory .picture) j 0) (a .ask .number) _ _ (cpuRefused a (s .gc) (s .memory))
     (λ z. after-stays (a .ask .deed) (s .gc .latches) (s .memory) j (h (sym (answered-number (a .ask .number) _ _ _) ∙ z))) refl

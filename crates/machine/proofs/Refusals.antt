@@ -1,9 +1,9 @@
--- Refusals: each is given exactly when its condition holds and no earlier one does; it leaves everything as handed in, and carries value 0.
+-- Refusals: each is given exactly when its condition holds and no earlier one does; it leaves everything as handed in, but for K8's counter of accesses turned away, and carries value 0.
 use Prim.Native.Nat.{ℕ, zero, suc, _<_, _≤_}
 use native.Mathlib.Omega.{arith}
 use mathlib.Core.Logic.{_≢_, _↔_}
 use mathlib.Core.Path.{_≡_, refl, sym, ap, _∙_, subst}
-use mathlib.Core.Bool.{Bool, true, false, _&&_}
+use mathlib.Core.Bool.{Bool, true, false, _&&_, _||_}
 use mathlib.Core.List.{List, [], _∷_, map}
 use lib.ListN.{replicate}
 use lib.Dec.{eqb, ltb, leb}
@@ -15,23 +15,26 @@ use Rattle.machine_types.specs.declared.gc.ShiftMode.the-variants.{Standard, CG
 use Rattle.machine_types.specs.declared.gc.GraphicsRegisters.{GraphicsRegisters}
 use Rattle.machine_types.specs.declared.gc.GraphicsController.{GraphicsController}
 use Rattle.machine_types.specs.declared.seq.Sequencer.{Sequencer}
+use Rattle.machine_types.specs.declared.shape.Shape.{Shape}
+use Rattle.bits.specs.Bit.{pick}
 use Rattle.machine.specs.Memory.{Memory, shape, sound, Shaped}
 use Rattle.machine.specs.Answers.{Value, one, two, pixel, part, blank, Outcome, answered}
-use Rattle.machine.specs.Graphics.{fitsGc, shiftMode, memoryMap}
+use Rattle.machine.specs.Graphics.{fitsGc, shiftMode, memoryMap, gcOf}
 use Rattle.machine.specs.Sequencer.{fitsSeq}
 use Rattle.machine.specs.Address.{inWindow, offset}
-use Rattle.machine.specs.Deeds.{perform}
+use Rattle.machine.specs.Deeds.{perform, valueOf}
 use Rattle.machine.specs.Calls.{refuse, shows, offsetNumber, planeNumber, placeNumber, shownNumber, accessNumber, showNumber}
 use Rattle.machine.specs.Calls.{VramCall, readU8, peekU8, readGlyph, readLinear, serializeLinear, writeU8, planeSet, planeAnd, planeOr, deplane, vramPlan}
 use Rattle.machine.specs.Calls.{SequencerCall, seqReset, seqClock, seqSetClockChangePending, seqPollClockChange, seqReadAddress, seqReadData, seqWriteAddress, seqWriteData, seqNumberOf}
 use Rattle.machine.specs.Calls.{DirectCall, seqCpuReadU8, seqPeekU8, seqGcReadU8, seqReadLinear, seqSerializeLinear, seqPlaneSet, seqPlaneAnd, seqPlaneOr, directPlan}
 use Rattle.machine.specs.Calls.{GraphicsCall, gcReset, gcChain, gcChain4, gcMemoryMap, gcOddEven, gcShiftMode, gcReadAddress, gcReadData, gcWriteAddress, gcWriteData, gcMapAddress, gcNumberOf}
-use Rattle.machine.specs.Calls.{CpuCall, cpuRead, cpuPeek, cpuWrite, serialize, cpuPlan}
-use Rattle.machine.specs.Step.{vramStep, sequencerStep, directStep, graphicsStep, device, cpuStep, State, Call, vram, sequencer, direct, graphics, cpu, lifted}
+use Rattle.machine.specs.Calls.{CpuCall, cpuRead, cpuPeek, cpuWrite, serialize, cpuPlan, refusedCounter, noCounter, refusalCounter, counted}
+use Rattle.machine.specs.Step.{vramStep, sequencerStep, directStep, graphicsStep, device, cpuAfter, cpuRefused, cpuStep, State, Call, vram, sequencer, direct, graphics, cpu, lifted}
 use Rattle.machine.specs.Step.{withMemory, withSeq, withGc, withDevice, step}
 use Rattle.machine.specs.Claims.{Check, check, RightGc, RightSeq, InWindow, forBoth, forMemory, forPlane, forWindow, forOffset, forShown, forPlace, vramChecks}
-use Rattle.machine.specs.Claims.{sequencerChecks, directChecks, graphicsChecks, cpuChecks, checks, Given, done, here, later, order, inOrder, Stays}
-use Rattle.machine.proofs.Laws.{answered-number}
+use Rattle.machine.specs.Claims.{sequencerChecks, directChecks, graphicsChecks, cpuChecks, checks, Given, done, here, later, order, inOrder}
+use Rattle.machine.specs.Claims.{turnsAway, oneMoreRefused, afterRefusal, Stays}
+use Rattle.machine.proofs.Laws.{answered-number, none-raised}
 
 -- ---- a test and what it tests
 
@@ -310,18 +313,41 @@ graphics-stays : (g : GraphicsController) (c : GraphicsCall) → graphicsStep g 
 unfolding graphicsStep
 graphics-stays g c ne = answered-stays (gcNumberOf (g .registers) c) _ _ g ne
 
-cpu-stays : (g : GraphicsController) (s : Sequencer) (m : Memory) (c : CpuCall) → cpuStep g s m c .answer .number ≢ 0 → Stays (cpuStep g s m c) (device g m)
+-- the controller that a refusal with a number leaves, by whether it turns a read or a write away
+module _ (g : GraphicsController) (r : GraphicsRegisters) (s : Sequencer) (h : Shape) (n : ℕ) where
+  turned : (t : Bool) → gcOf (g .registers) (counted (pick t refusedCounter noCounter) (g .stats)) (g .latches) ≡ pick t (oneMoreRefused g) g
+  unfolding counted
+  turned true = refl
+  turned false = refl
+
+  controller-left : (c : CpuCall) → gcOf (g .registers) (counted (refusalCounter n (cpuPlan r s h c .turnedAway)) (g .stats)) (g .latches) ≡ pick (turnsAway c n) (oneMoreRefused g) g
+  unfolding cpuPlan counted
+  controller-left (cpuRead x page) = turned (eqb n 2 || eqb n 3)
+  controller-left (cpuPeek x page) = rw (none-raised n)
+  controller-left (cpuWrite x page v) = turned (eqb n 2 || eqb n 3)
+  controller-left (serialize o) = rw (none-raised n)
+
+cpu-stays : (g : GraphicsController) (s : Sequencer) (m : Memory) (c : CpuCall) → cpuStep g s m c .answer .number ≢ 0
+    → Stays (cpuStep g s m c) (device (pick (turnsAway c (cpuStep g s m c .answer .number)) (oneMoreRefused g) g) m)
 unfolding cpuStep
-cpu-stays g s m c ne = answered-stays (cpuPlan (g .registers) s (shape m) c .ask .number) _ _ (device g m) ne
+cpu-stays g s m c ne =
+    let a = cpuPlan (g .registers) s (shape m) c in
+    let left = controller-left g (g .registers) s (shape m) (a .ask .number) c in
+    rw (← answered-number (a .ask .number) (valueOf (a .ask .reply) (cpuAfter a g m .gc .latches) (cpuAfter a g m .memory)) (cpuAfter a g m) (cpuRefused a g m), ← left)
+    (answered-stays (a .ask .number) _ _ (cpuRefused a g m) ne)
 
 lifted-stays : {S T : Type 0} (f : S → T) (o : Outcome S) (old : S) → Stays o old → Stays (lifted f o) (f old)
 lifted-stays f o old h = record { next = ap f (h .next); value = h .value }
 
--- a refusal leaves registers, latches and memory as handed in, and carries value 0
-pub refused-stays : (s : State) (c : Call) → step s c .answer .number ≢ 0 → Stays (step s c) s
-unfolding step
+with-turned : (s : State) (t : Bool) → withDevice s (device (pick t (oneMoreRefused (s .gc)) (s .gc)) (s .memory)) ≡ pick t (withGc s (oneMoreRefused (s .gc))) s
+with-turned s true = refl
+with-turned s false = refl
+
+-- a refusal carries value 0 and leaves registers, latches, counters and memory as handed in; a read or a write answered 2 or 3 raises the seventh counter by one, and moves nothing else
+pub refused-stays : (s : State) (c : Call) → step s c .answer .number ≢ 0 → Stays (step s c) (afterRefusal s c (step s c .answer .number))
+unfolding step afterRefusal
 refused-stays s (vram c) ne = lifted-stays (withMemory s) _ (s .memory) (vram-stays (s .memory) c ne)
 refused-stays s (sequencer c) ne = lifted-stays (withSeq s) _ (s .seq) (sequencer-stays (s .seq) c ne)
 refused-stays s (direct c) ne = lifted-stays (withMemory s) _ (s .memory) (direct-stays (s .seq) (s .memory) c ne)
 refused-stays s (graphics c) ne = lifted-stays (withGc s) _ (s .gc) (graphics-stays (s .gc) c ne)
-refused-stays s (cpu c) ne = lifted-stays (withDevice s) _ (device (s .gc) (s .memory)) (cpu-stays (s .gc) (s .seq) (s .memory) c ne)
+refused-stays s (cpu c) ne = subst (Stays (step s (cpu c))) (with-turned s (turnsAway c (step s (cpu c) .answer .number))) (lifted-stays (withDevice s) _ _ (cpu-stays (s .gc) (s .seq) (s .memory) c ne))

@@ -24,8 +24,8 @@ use Rattle.machine.specs.Address.{inWindow, a0, withBit0, mapped, offset
 use Rattle.machine.specs.DataPath.{peekedPlane}
 use Rattle.machine.specs.Deeds.{rest, load, known, byteAt, plan, memoryAfter, valueOf}
 use Rattle.machine.specs.Calls.{refuse, checkOffset, fitsBoth, accessNumber, gcMapAddress, gcNumberOf, gcValue, gcNext}
-use Rattle.machine.specs.Calls.{CpuCall, cpuRead, cpuPeek, cpuWrite, CpuPlan, cpuPlanOf, writeCounter, readCounter, noCounter, readReply, writeDeed, cpuPlan}
-use Rattle.machine.specs.Step.{graphicsStep, device, cpuPerform, cpuStep, graphics, cpu}
+use Rattle.machine.specs.Calls.{CpuCall, cpuRead, cpuPeek, cpuWrite, CpuPlan, cpuPlanOf, writeCounter, readCounter, refusedCounter, noCounter, readReply, writeDeed, cpuPlan}
+use Rattle.machine.specs.Step.{graphicsStep, Device, cpuRefused, cpuPerform, cpuStep, graphics, cpu}
 use Rattle.machine.proofs.Laws.{both, refuse-0}
 use Rattle.machine.proofs.Computed.{computed}
 use Rattle.machine.proofs.Worked.{start, told, gcTo, says, leads, each, painted}
@@ -103,9 +103,9 @@ accessAt (writes v) x page = cpuWrite x page v
 
 -- its plan, the number and the offset left open
 abbrev planAt : GraphicsRegisters → Sequencer → ℕ → Access → ℕ → ℕ → CpuPlan
-planAt r s x reads n o = cpuPlanOf (plan n (load (storedAt s o)) (readReply (readMode r) r s x o)) (readCounter (readMode r))
-planAt r s x peeks n o = cpuPlanOf (plan n rest (byteAt (peekedPlane s o) (storedAt s o))) noCounter
-planAt r s x (writes v) n o = cpuPlanOf (plan n (writeDeed (writeMode r) r s x o v) (known (one 0))) (writeCounter (writeMode r))
+planAt r s x reads n o = cpuPlanOf (plan n (load (storedAt s o)) (readReply (readMode r) r s x o)) (readCounter (readMode r)) refusedCounter
+planAt r s x peeks n o = cpuPlanOf (plan n rest (byteAt (peekedPlane s o) (storedAt s o))) noCounter noCounter
+planAt r s x (writes v) n o = cpuPlanOf (plan n (writeDeed (writeMode r) r s x o v) (known (one 0))) (writeCounter (writeMode r)) refusedCounter
 
 module _ (rule : GraphicsRegisters → ℕ → Bool → ℕ) (r : GraphicsRegisters) (s : Sequencer) (h : Shape) (x : ℕ) (page : Bool) where
   abbrev numberBy : ℕ
@@ -165,15 +165,19 @@ blank-read ReadSelectedPlane r s x o l m = refl
 blank-read ReadComparedPlanes r s x o l m = refl
 
 module _ (g : GraphicsController) (s : Sequencer) (m : Memory) (x : ℕ) (page : Bool) where
+  -- what a refused access leaves, whatever the offset: here 0
+  abbrev leftOf : Access → ℕ → Device
+  leftOf k n = cpuRefused (planAt (g .registers) s x k (suc n) 0) g m
+
   -- a refused access shows no offset
-  refused : (k : Access) (n o : ℕ) → cpuPerform (planAt (g .registers) s x k (suc n) o) g m ≡ outcome (said (suc n) (one 0)) (device g m)
+  refused : (k : Access) (n o : ℕ) → cpuPerform (planAt (g .registers) s x k (suc n) o) g m ≡ outcome (said (suc n) (one 0)) (leftOf k n)
   unfolding memoryAfter valueOf
-  refused reads n o = ap (λ (v : Value). outcome (said (suc n) v) (device g m)) (blank-read (readMode (g .registers)) _ s x o _ m)
+  refused reads n o = ap (λ (v : Value). outcome (said (suc n) v) (leftOf reads n)) (blank-read (readMode (g .registers)) _ s x o _ m)
   refused peeks n o = refl
   refused (writes v) n o = refl
 
   refused-by : (rule : GraphicsRegisters → ℕ → Bool → ℕ) (k : Access) (n : ℕ) → numberBy rule (g .registers) s (shape m) x page ≡ suc n
-      → cpuPerform (planBy rule (g .registers) s (shape m) x page k) g m ≡ outcome (said (suc n) (one 0)) (device g m)
+      → cpuPerform (planBy rule (g .registers) s (shape m) x page k) g m ≡ outcome (said (suc n) (one 0)) (leftOf k n)
   refused-by rule k n e = rw e (refused k n _)
 
   -- every read, peek and write answers the same and leaves the same

@@ -79,10 +79,17 @@ unfoldable pub tops : List Call → List ℕ
 unfolding leaves
 tops cs = let m = leaves cs in take 2 (m .p0) ++ (take 2 (m .p1) ++ (take 2 (m .p2) ++ take 2 (m .p3)))
 
--- the six counters after calls
+-- the seven counters after calls, from a state
+unfoldable pub countersFrom : State → List Call → List ℕ
+unfolding computed
+countersFrom s cs =
+    let c = computed s cs .final .gc .stats in
+    c .«mode_0_writes» ∷ c .«mode_1_writes» ∷ c .«mode_2_writes» ∷ c .«mode_3_writes» ∷ c .«mode_0_reads» ∷ c .«mode_1_reads» ∷ c .«refused_accesses» ∷ []
+
+-- .. from that start
 unfoldable pub counters : List Call → List ℕ
-unfolding start computed
-counters cs = let c = computed start cs .final .gc .stats in c .«mode_0_writes» ∷ c .«mode_1_writes» ∷ c .«mode_2_writes» ∷ c .«mode_3_writes» ∷ c .«mode_0_reads» ∷ c .«mode_1_reads» ∷ []
+unfolding start countersFrom
+counters = countersFrom start
 
 -- the first byte of each plane and the first eight pixels after calls
 unfoldable pub firsts : List Call → List ℕ

@@ -1,6 +1,6 @@
 -- Every call: what it refuses, in the order 6, 1, 9, 4, 2, 3, 5, and what it plans, from registers and lengths alone.
 use Prim.Native.Nat.{ℕ, _+_, _*_, _%_, _^_, min, max}
-use mathlib.Core.Bool.{Bool, true, false, _&&_}
+use mathlib.Core.Bool.{Bool, true, false, _&&_, _||_}
 use lib.Dec.{eqb, ltb, leb}
 use Rattle.bits.specs.Bit.{bit, bitOf, pick}
 use Rattle.machine_types.specs.declared.gc.GraphicsRegisters.{GraphicsRegisters}
@@ -259,16 +259,17 @@ shows Unused = true
 unfoldable pub showNumber : GraphicsRegisters → Sequencer → Shape → ℕ → ℕ
 showNumber r s h o = refuse (fitsBoth r s) 6 (refuse (sound h) 1 (refuse (shows (shiftMode r)) 9 (checkShown h o)))
 
--- a plan, and the counter that an accepted access raises
+-- a plan, the counter that the call raises where it is accepted, and the one that it raises where it is refused with 2 or 3
 pub record CpuPlan : Type 0 where
   pub ask : Plan
   pub counter : ℕ
+  pub turnedAway : ℕ
 
--- the plan of a call and its counter
-abbrev pub cpuPlanOf : Plan → ℕ → CpuPlan
-cpuPlanOf a n = record { ask = a; counter = n }
+-- the plan of a call and its two counters
+abbrev pub cpuPlanOf : Plan → ℕ → ℕ → CpuPlan
+cpuPlanOf a n k = record { ask = a; counter = n; turnedAway = k }
 
--- the six counters: 0 to 3 writes by mode, 4 and 5 reads by mode. No peek and no show counts
+-- the seven counters: 0 to 3 accepted writes by mode, 4 and 5 accepted reads by mode, 6 the refused of both (K8). No peek and no show counts
 abbrev pub writeCounter : WriteMode → ℕ
 writeCounter Mode0 = 0
 writeCounter Mode1 = 1
@@ -280,9 +281,17 @@ abbrev pub readCounter : ReadMode → ℕ
 readCounter ReadSelectedPlane = 4
 readCounter ReadComparedPlanes = 5
 
+-- K8: reads and writes refused with 2 or 3, whatever the mode
+abbrev pub refusedCounter : ℕ
+refusedCounter = 6
+
 -- a peek and a show raise none
 abbrev pub noCounter : ℕ
-noCounter = 6
+noCounter = 7
+
+-- the counter that a refusal raises, of its number and the one that the plan names: 2 and 3 raise it, 6 and 1 none
+abbrev pub refusalCounter : ℕ → ℕ → ℕ
+refusalCounter n k = pick (eqb n 2 || eqb n 3) k noCounter
 
 -- raised by 1, back to 0 after 4,294,967,295
 abbrev pub raised : ℕ → ℕ → ℕ → ℕ
@@ -297,6 +306,7 @@ counted n c = record {
   «mode_3_writes» = raised n 3 (c .«mode_3_writes»);
   «mode_0_reads» = raised n 4 (c .«mode_0_reads»);
   «mode_1_reads» = raised n 5 (c .«mode_1_reads»);
+  «refused_accesses» = raised n 6 (c .«refused_accesses»);
 }
 
 -- selected-plane read: the selected plane's byte, under chain-four at the offset with its low two bits clear; compare read: the latches compared
@@ -310,7 +320,7 @@ writeDeed w r s x o v = store (storedAt s o) (λ p. visits r x p && inMask s o (
 
 -- under chain-four latches load, and a peek answers, at the offset with its low two bits clear, as stores go there; a peek moves no latch or counter
 unfoldable pub cpuPlan : GraphicsRegisters → Sequencer → Shape → CpuCall → CpuPlan
-cpuPlan r s h (cpuRead x page) = cpuPlanOf (plan (accessNumber r s h x page) (load (storedAt s (offset r x page))) (readReply (readMode r) r s x (offset r x page))) (readCounter (readMode r))
-cpuPlan r s h (cpuPeek x page) = cpuPlanOf (plan (accessNumber r s h x page) rest (byteAt (peekedPlane s (offset r x page)) (storedAt s (offset r x page)))) noCounter
-cpuPlan r s h (cpuWrite x page v) = cpuPlanOf (plan (accessNumber r s h x page) (writeDeed (writeMode r) r s x (offset r x page) v) (known (one 0))) (writeCounter (writeMode r))
-cpuPlan r s h (serialize o) = cpuPlanOf (plan (showNumber r s h o) rest (pixelsAt (8 * o))) noCounter
+cpuPlan r s h (cpuRead x page) = cpuPlanOf (plan (accessNumber r s h x page) (load (storedAt s (offset r x page))) (readReply (readMode r) r s x (offset r x page))) (readCounter (readMode r)) refusedCounter
+cpuPlan r s h (cpuPeek x page) = cpuPlanOf (plan (accessNumber r s h x page) rest (byteAt (peekedPlane s (offset r x page)) (storedAt s (offset r x page)))) noCounter noCounter
+cpuPlan r s h (cpuWrite x page v) = cpuPlanOf (plan (accessNumber r s h x page) (writeDeed (writeMode r) r s x (offset r x page) v) (known (one 0))) (writeCounter (writeMode r)) refusedCounter
+cpuPlan r s h (serialize o) = cpuPlanOf (plan (showNumber r s h o) rest (pixelsAt (8 * o))) noCounter noCounter

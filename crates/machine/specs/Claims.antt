@@ -1,8 +1,8 @@
--- The words in which the theorems on the machine are put: what each refusal asks, accesses counted, a picture that matches, pixels that may move.
-use Prim.Native.Nat.{ℕ, _+_, _*_, _/_, _%_, _<_, _≤_}
+-- The words in which the theorems on the machine are put: what each refusal asks and leaves, accesses counted, a picture that matches, pixels that may move.
+use Prim.Native.Nat.{ℕ, _+_, _*_, _/_, _%_, _^_, _<_, _≤_}
 use mathlib.Core.Logic.{_≢_}
 use mathlib.Core.Path.{_≡_}
-use mathlib.Core.Bool.{Bool, true, false}
+use mathlib.Core.Bool.{Bool, true, false, _||_, not}
 use mathlib.Core.List.{List, [], _∷_}
 use lib.Dec.{eqb}
 use lib.ListN.{length, getD}
@@ -12,6 +12,7 @@ use Rattle.machine_types.specs.declared.gc.MemoryMap.the-variants.{«A0000_128k
 use Rattle.machine_types.specs.declared.gc.ShiftMode.the-variants.{CGACompatible, Chain4}
 use Rattle.machine_types.specs.declared.gc.GraphicsRegisters.{GraphicsRegisters}
 use Rattle.machine_types.specs.declared.gc.GraphicsControllerStats.{GraphicsControllerStats}
+use Rattle.machine_types.specs.declared.gc.GraphicsController.{GraphicsController}
 use Rattle.machine_types.specs.declared.seq.Sequencer.{Sequencer}
 use Rattle.machine_types.specs.Start.{freshGc, freshSeq}
 use Rattle.machine.specs.Memory.{Memory, shape, Shaped}
@@ -24,7 +25,7 @@ use Rattle.machine.specs.Calls.{SequencerCall, seqReset, seqClock, seqSe
 use Rattle.machine.specs.Calls.{DirectCall, seqCpuReadU8, seqPeekU8, seqGcReadU8, seqReadLinear, seqSerializeLinear, seqPlaneSet, seqPlaneAnd, seqPlaneOr, directPlan}
 use Rattle.machine.specs.Calls.{GraphicsCall, gcReset, gcChain, gcChain4, gcMemoryMap, gcOddEven, gcShiftMode, gcReadAddress, gcReadData, gcWriteAddress, gcWriteData, gcMapAddress}
 use Rattle.machine.specs.Calls.{CpuCall, cpuRead, cpuPeek, cpuWrite, serialize, cpuPlan}
-use Rattle.machine.specs.Step.{State, state, Call, vram, sequencer, direct, graphics, cpu, step}
+use Rattle.machine.specs.Step.{State, state, Call, vram, sequencer, direct, graphics, cpu, withGc, step}
 
 -- ---- `refused-exactly`: what each call looks for, and in which order
 
@@ -183,9 +184,40 @@ inOrder (n ∷ ns) (c ∷ cs) = pick (eqb n (c .number)) (inOrder ns cs) (inOrde
 
 -- ---- `refused-stays`
 
--- a refusal: what was handed in is left, and the value is blank
-pub record Stays {S : Type 0} (o : Outcome S) (old : S) : Type 0 where
-  pub next : o .next ≡ old
+-- K8: a read or a write of the processor that is answered 2 or 3; no other call, and no other number
+abbrev pub turnsAway : CpuCall → ℕ → Bool
+turnsAway (cpuRead x page) n = eqb n 2 || eqb n 3
+turnsAway (cpuPeek x page) n = false
+turnsAway (cpuWrite x page v) n = eqb n 2 || eqb n 3
+turnsAway (serialize o) n = false
+
+-- the record with its seventh counter raised by one, back to 0 after 4,294,967,295, and all else as it was
+abbrev pub oneMoreRefused : GraphicsController → GraphicsController
+oneMoreRefused g = record {
+  registers = g .registers;
+  stats = record {
+    «mode_0_writes» = g .stats .«mode_0_writes»;
+    «mode_1_writes» = g .stats .«mode_1_writes»;
+    «mode_2_writes» = g .stats .«mode_2_writes»;
+    «mode_3_writes» = g .stats .«mode_3_writes»;
+    «mode_0_reads» = g .stats .«mode_0_reads»;
+    «mode_1_reads» = g .stats .«mode_1_reads»;
+    «refused_accesses» = (g .stats .«refused_accesses» + 1) % 2 ^ 32;
+  };
+  latches = g .latches;
+}
+
+-- what a refusal with a number leaves of the state that a call was handed: that state, but for the counter of accesses turned away
+unfoldable pub afterRefusal : State → Call → ℕ → State
+afterRefusal s (vram c) n = s
+afterRefusal s (sequencer c) n = s
+afterRefusal s (direct c) n = s
+afterRefusal s (graphics c) n = s
+afterRefusal s (cpu c) n = pick (turnsAway c n) (withGc s (oneMoreRefused (s .gc))) s
+
+-- a refusal: what is left, and the value is blank
+pub record Stays {S : Type 0} (o : Outcome S) (left : S) : Type 0 where
+  pub next : o .next ≡ left
   pub value : o .answer .value ≡ blank (o .answer .value)
 
 -- ---- `records-stay`: a record that refusal 6 lets pass is left such
@@ -199,11 +231,15 @@ pub record RightRecords (s : State) : Type 0 where
 abbrev pub atStart : Memory → State
 atStart m = state freshGc freshSeq m
 
--- ---- `counters-sum`: the accepted reads and writes of the processor since a reset
+-- ---- `counters-sum`, `seven-counters-sum`: the reads and writes of the processor since a reset
 
 -- the sum of the six counters
 abbrev pub total : GraphicsControllerStats → ℕ
 total c = c .«mode_0_writes» + c .«mode_1_writes» + c .«mode_2_writes» + c .«mode_3_writes» + c .«mode_0_reads» + c .«mode_1_reads»
+
+-- the sum of the seven
+abbrev pub sevenTotal : GraphicsControllerStats → ℕ
+sevenTotal c = total c + c .«refused_accesses»
 
 -- a read or a write of the processor is an access; no peek and no show is
 abbrev pub accesses : CpuCall → ℕ
@@ -226,18 +262,26 @@ sinceReset n (gcWriteAddress x) = n
 sinceReset n (gcWriteData x) = n
 sinceReset n (gcMapAddress x page) = n
 
--- n accesses so far, and one call more; only an accepted one counts
-unfoldable pub counts : ℕ → State → Call → ℕ
-counts n s (vram c) = n
-counts n s (sequencer c) = n
-counts n s (direct c) = n
-counts n s (graphics c) = sinceReset n c
-counts n s (cpu c) = pick (eqb (step s (cpu c) .answer .number) 0) (n + accesses c) n
+-- n accesses so far, and one call more; an access counts where its answer's number is one that counts
+unfoldable pub countsWhere : (ℕ → Bool) → ℕ → State → Call → ℕ
+countsWhere f n s (vram c) = n
+countsWhere f n s (sequencer c) = n
+countsWhere f n s (direct c) = n
+countsWhere f n s (graphics c) = sinceReset n c
+countsWhere f n s (cpu c) = pick (f (step s (cpu c) .answer .number)) (n + accesses c) n
 
 -- the accesses after a list of calls
-unfoldable pub tally : ℕ → State → List Call → ℕ
-tally n s [] = n
-tally n s (c ∷ cs) = tally (counts n s c) (step s c .next) cs
+unfoldable pub tallyWhere : (ℕ → Bool) → ℕ → State → List Call → ℕ
+tallyWhere f n s [] = n
+tallyWhere f n s (c ∷ cs) = tallyWhere f (countsWhere f n s c) (step s c .next) cs
+
+-- only an accepted access counts
+abbrev pub tally : ℕ → State → List Call → ℕ
+tally = tallyWhere (λ n. eqb n 0)
+
+-- K8: every access counts, apart from those answered 6 or 1
+abbrev pub sevenTally : ℕ → State → List Call → ℕ
+sevenTally = tallyWhere (λ n. not (eqb n 6 || eqb n 1))
 
 -- ---- `picture-matches`, `pixels-stay`
 

@@ -7,7 +7,7 @@ use Rattle.machine.specs.Answers.{Said, Outcome, outcome, answered}
 use Rattle.machine.specs.Graphics.{gcOf}
 use Rattle.machine.specs.Deeds.{Plan, latchesAfter, memoryAfter, valueOf, perform}
 use Rattle.machine.specs.Calls.{VramCall, vramPlan, SequencerCall, seqNumberOf, seqValue, seqNext, DirectCall, directPlan, GraphicsCall, gcNumberOf, gcValue}
-use Rattle.machine.specs.Calls.{gcNext, CpuCall, CpuPlan, cpuPlan, counted}
+use Rattle.machine.specs.Calls.{gcNext, CpuCall, CpuPlan, cpuPlan, refusalCounter, counted}
 
 -- ---- the five layers, each over what its calls are handed
 
@@ -41,13 +41,17 @@ abbrev pub cpuAfter : CpuPlan → GraphicsController → Memory → Device
 cpuAfter a g m = device (gcOf (g .registers) (counted (a .counter) (g .stats)) (latchesAfter (a .ask .deed) (g .latches) m))
     (memoryAfter (a .ask .deed) (g .latches) m)
 
+-- what a refusal leaves: all as handed in, but for the counter that 2 and 3 raise (K8)
+abbrev pub cpuRefused : CpuPlan → GraphicsController → Memory → Device
+cpuRefused a g m = device (gcOf (g .registers) (counted (refusalCounter (a .ask .number) (a .turnedAway)) (g .stats)) (g .latches)) m
+
 -- the reply is made after the deed: a compare read sees the latches that it loaded
 abbrev pub cpuAnswered : Plan → Device → Device → Outcome Device
 cpuAnswered a new old = answered (a .number) (valueOf (a .reply) (new .gc .latches) (new .memory)) new old
 
--- a plan of the processor's carried out; a refusal leaves controller and memory as handed in
+-- a plan of the processor's carried out
 abbrev pub cpuPerform : CpuPlan → GraphicsController → Memory → Outcome Device
-cpuPerform a g m = cpuAnswered (a .ask) (cpuAfter a g m) (device g m)
+cpuPerform a g m = cpuAnswered (a .ask) (cpuAfter a g m) (cpuRefused a g m)
 
 -- calls on both records and memory; the sequencer's record stays
 unfoldable pub cpuStep : GraphicsController → Sequencer → Memory → CpuCall → Outcome Device

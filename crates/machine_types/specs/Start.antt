@@ -22,7 +22,7 @@ freshGc = record {
     «color_dont_care» = 0;
     bitmask = 0;
   };
-  stats = record { «mode_0_writes» = 0; «mode_1_writes» = 0; «mode_2_writes» = 0; «mode_3_writes» = 0; «mode_0_reads» = 0; «mode_1_reads» = 0 };
+  stats = record { «mode_0_writes» = 0; «mode_1_writes» = 0; «mode_2_writes» = 0; «mode_3_writes» = 0; «mode_0_reads» = 0; «mode_1_reads» = 0; «refused_accesses» = 0 };
   latches = 0 ∷ 0 ∷ 0 ∷ 0 ∷ [];
 }
 

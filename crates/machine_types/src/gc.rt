@@ -83,7 +83,7 @@ pub struct GraphicsRegisters {
     pub bitmask: u8,
 }
 
-// The accepted reads and writes of the processor, by mode; each count goes back to 0 after 4,294,967,295.
+// The processor's reads and writes: the accepted ones by mode, and those refused with 2 or 3. Each count goes back to 0 after 4,294,967,295.
 pub struct GraphicsControllerStats {
     pub mode_0_writes: u32,
     pub mode_1_writes: u32,
@@ -91,6 +91,7 @@ pub struct GraphicsControllerStats {
     pub mode_3_writes: u32,
     pub mode_0_reads: u32,
     pub mode_1_reads: u32,
+    pub refused_accesses: u32,
 }
 
 pub struct GraphicsController {
@@ -124,6 +125,7 @@ impl GraphicsController {
             mode_3_writes: 0,
             mode_0_reads: 0,
             mode_1_reads: 0,
+            refused_accesses: 0,
         };
         let latches = [0u8; 4];
         GraphicsController {
