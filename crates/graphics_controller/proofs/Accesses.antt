@@ -27,9 +27,9 @@ use Rattle.machine.specs.Sequencer.{fitsSeq, chainFour, storedAt, answersFrom}
 use Rattle.machine.specs.Address.{inWindow, a0, mapped, offset}
 use Rattle.machine.specs.DataPath.{mapSelected, selectedPlane, peekedPlane}
 use Rattle.machine.specs.Deeds.{byte, latch, loaded, latchesAfter, memoryAfter, valueOf}
-use Rattle.machine.specs.Calls.{refuse, fitsBoth, accessNumber, shows, showNumber, CpuPlan, counted, readCounter, writeCounter, readReply, writeDeed, cpuPlan, cpuRead, cpuPeek, cpuWrite, serialize}
-use Rattle.machine.specs.Step.{device, lifted, cpuPerform, cpuStep}
-use Rattle.machine.proofs.Laws.{both, refuse-0, sound-facts, AtOffset, answered-refused}
+use Rattle.machine.specs.Calls.{refuse, fitsBoth, accessNumber, shows, showNumber, CpuPlan, noCounter, refusedCounter, refusalCounter, counted, readCounter, writeCounter, readReply, writeDeed, cpuPlan, cpuRead, cpuPeek, cpuWrite, serialize}
+use Rattle.machine.specs.Step.{device, lifted, cpuRefused, cpuPerform, cpuStep}
+use Rattle.machine.proofs.Laws.{both, refuse-0, sound-facts, AtOffset, answered-refused, none-raised}
 use Rattle.refusals_records.proofs.Held.{map-select-fits}
 use Rattle.refusals_access.proofs.Windows.{left}
 use Rattle.graphics_controller.specs.Reads.{readByte}
@@ -104,8 +104,17 @@ show-accepted r s m o e =
 
 module _ (a : CpuPlan) (g : GraphicsController) (m : Memory) where
   pub cpu-refused : (k : ℕ) (v : Value) → 0 < k → k ≡ a .ask .number → v ≡ blank (valueOf (a .ask .reply) (latchesAfter (a .ask .deed) (g .latches) m) (memoryAfter (a .ask .deed) (g .latches) m))
+      → outcome (said k v) (cpuRefused a g m) ≡ cpuPerform a g m
+  cpu-refused k v h e f = answered-refused k (a .ask .number) _ v _ (cpuRefused a g m) h e f
+
+  -- of a call that names no counter for its refusals
+  pub cpu-uncounted : (k : ℕ) (v : Value) → a .turnedAway ≡ noCounter → 0 < k → k ≡ a .ask .number
+      → v ≡ blank (valueOf (a .ask .reply) (latchesAfter (a .ask .deed) (g .latches) m) (memoryAfter (a .ask .deed) (g .latches) m))
       → outcome (said k v) (device g m) ≡ cpuPerform a g m
-  cpu-refused k v h e f = answered-refused k (a .ask .number) _ v _ (device g m) h e f
+  cpu-uncounted k v t h e f = ap (outcome (said k v)) kept ∙ cpu-refused k v h e f
+    where
+      kept : device g m ≡ cpuRefused a g m
+      kept = unfold counted in rw (t, none-raised (a .ask .number))
 
   pub cpu-done : (g′ : GraphicsController) (m′ : Memory) (v : Value) → 0 ≡ a .ask .number
       → g′ ≡ gcOf (g .registers) (counted (a .counter) (g .stats)) (latchesAfter (a .ask .deed) (g .latches) m)
@@ -172,9 +181,18 @@ module _ (g : GraphicsController) (s : Sequencer) (m : Memory) (x : ℕ) (page :
   abbrev at : ℕ
   at = offset (g .registers) x page
 
-  pub read-refused : (k : ℕ) → 0 < k → k ≡ number → outcome (said k (one 0)) (device g m) ≡ cpuStep g s m (cpuRead x page)
+  -- what a read or a write refused with a number leaves of the controller
+  abbrev leftBy : ℕ → GraphicsController
+  leftBy k = gcOf (g .registers) (counted (refusalCounter k refusedCounter) (g .stats)) (g .latches)
+
+  refused-left : (k : ℕ) (g′ : GraphicsController) → k ≡ number → g′ ≡ leftBy k → outcome (said k (one 0)) (device g′ m) ≡ outcome (said k (one 0)) (device (leftBy number) m)
+  refused-left k g′ e eg = ap (λ (g : GraphicsController). outcome (said k (one 0)) (device g m)) (eg ∙ ap leftBy e)
+
+  pub read-refused : (k : ℕ) (g′ : GraphicsController) → 0 < k → k ≡ number → g′ ≡ leftBy k → outcome (said k (one 0)) (device g′ m) ≡ cpuStep g s m (cpuRead x page)
   unfolding cpuStep cpuPlan
-  read-refused k h e = cpu-refused (cpuPlan (g .registers) s (shape m) (cpuRead x page)) g m k (one 0) h e (read-blank (readMode (g .registers)) (g .registers) s x at _ _)
+  read-refused k g′ h e eg =
+      refused-left k g′ e eg
+      ∙ cpu-refused (cpuPlan (g .registers) s (shape m) (cpuRead x page)) g m k (one 0) h e (read-blank (readMode (g .registers)) (g .registers) s x at _ _)
 
   -- latches loaded, one counter raised, and the answer from them
   pub read-done : (o t : ℕ) (l : List ℕ) (a : Said) (g′ : GraphicsController) → 0 ≡ number → o ≡ at → t ≡ storedAt s o → l ≡ loaded m t
@@ -191,15 +209,15 @@ module _ (g : GraphicsController) (s : Sequencer) (m : Memory) (x : ℕ) (page :
 
   pub peek-refused : (k : ℕ) → 0 < k → k ≡ number → outcome (said k (one 0)) (device g m) ≡ cpuStep g s m (cpuPeek x page)
   unfolding cpuStep cpuPlan valueOf
-  peek-refused k h e = cpu-refused (cpuPlan (g .registers) s (shape m) (cpuPeek x page)) g m k (one 0) h e refl
+  peek-refused k h e = cpu-uncounted (cpuPlan (g .registers) s (shape m) (cpuPeek x page)) g m k (one 0) refl h e refl
 
   pub peek-done : (o p t b : ℕ) → 0 ≡ number → o ≡ at → p ≡ peekedPlane s o → t ≡ storedAt s o → b ≡ byte m p t → outcome (said 0 (one b)) (device g m) ≡ cpuStep g s m (cpuPeek x page)
   unfolding cpuStep cpuPlan counted latchesAfter memoryAfter valueOf
   peek-done o p t b e eo ep et eb = cpu-done (cpuPlan (g .registers) s (shape m) (cpuPeek x page)) g m g m (one b) e refl refl (rw (eb, ep, et, eo))
 
-  pub write-refused : (v k : ℕ) → 0 < k → k ≡ number → outcome (said k (one 0)) (device g m) ≡ cpuStep g s m (cpuWrite x page v)
+  pub write-refused : (v k : ℕ) (g′ : GraphicsController) → 0 < k → k ≡ number → g′ ≡ leftBy k → outcome (said k (one 0)) (device g′ m) ≡ cpuStep g s m (cpuWrite x page v)
   unfolding cpuStep cpuPlan valueOf
-  write-refused v k h e = cpu-refused (cpuPlan (g .registers) s (shape m) (cpuWrite x page v)) g m k (one 0) h e refl
+  write-refused v k g′ h e eg = refused-left k g′ e eg ∙ cpu-refused (cpuPlan (g .registers) s (shape m) (cpuWrite x page v)) g m k (one 0) h e refl
 
   -- a write moves no latch
   write-latches : (w : WriteMode) (o v : ℕ) → g .latches ≡ latchesAfter (writeDeed w (g .registers) s x o v) (g .latches) m
@@ -221,7 +239,7 @@ module _ (g : GraphicsController) (s : Sequencer) (m : Memory) (x : ℕ) (page :
 module _ (g : GraphicsController) (s : Sequencer) (m : Memory) (o : ℕ) where
   pub show-refused : (k : ℕ) → 0 < k → k ≡ showNumber (g .registers) s (shape m) o → outcome (said k (part [])) (device g m) ≡ cpuStep g s m (serialize o)
   unfolding cpuStep cpuPlan valueOf
-  show-refused k h e = cpu-refused (cpuPlan (g .registers) s (shape m) (serialize o)) g m k (part []) h e refl
+  show-refused k h e = cpu-uncounted (cpuPlan (g .registers) s (shape m) (serialize o)) g m k (part []) refl h e refl
 
   pub show-done : (l : List ℕ) → 0 ≡ showNumber (g .registers) s (shape m) o → l ≡ take 8 (drop (8 * o) (m .picture)) → outcome (said 0 (part l)) (device g m) ≡ cpuStep g s m (serialize o)
   unfolding cpuStep cpuPlan counted latchesAfter memoryAfter valueOf

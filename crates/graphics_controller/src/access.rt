@@ -1,15 +1,16 @@
-// The processor's accesses: each judged once, then read or written through the latches and counted.
+// The processor's accesses: each judged once, then read or written through the latches, and counted, refused or not.
 ghost use mathlib.Core.Path.{_≡_};
 ghost use Prim.Native.Nat.{_<_, _≤_};
 ghost use lib.ListN.{length};
 ghost use Rattle.machine.specs.Memory.{lent, before, after, Shaped};
-ghost use Rattle.machine.specs.Answers.{said, one, outcome, byteSaid, storeSaid};
+ghost use Rattle.machine.specs.Answers.{refusalNumber, said, one, outcome, byteSaid, storeSaid};
 ghost use Rattle.machine.specs.Graphics.{gcOf, readMode, writeMode};
 ghost use Rattle.machine.specs.Deeds.{loaded};
-ghost use Rattle.machine.specs.Calls.{counted, readCounter, writeCounter, cpuRead, cpuPeek, cpuWrite};
+ghost use Rattle.machine.specs.Calls.{counted, readCounter, writeCounter, refusedCounter, refusalCounter, cpuRead, cpuPeek, cpuWrite};
 ghost use Rattle.machine.specs.Step.{device, cpuStep};
 ghost use Rattle.graphics_controller.specs.Reads.{readByte};
 use graphics_paths::counted_read;
+use graphics_paths::counted_refusal;
 use graphics_paths::counted_write;
 use graphics_paths::peeked_plane;
 use graphics_paths::pixel_op_compare;
@@ -22,6 +23,7 @@ use machine_types::GraphicsController;
 use machine_types::GraphicsRegisters;
 use machine_types::MappedAnswer;
 use machine_types::ReadMode;
+use machine_types::Refusal;
 use machine_types::Sequencer;
 use machine_types::Shape;
 use machine_types::StoreAnswer;
@@ -90,6 +92,15 @@ fn read_done(
     }
 }
 
+// What a refused read or write leaves of the controller: the seventh counter goes up where the refusal is 2 or 3, registers and latches stay.
+fn turned_away(gc: GraphicsController, refusal: Refusal) -> GraphicsController
+    ensures { λ r. ⌜ r ≡ gcOf (gc .registers) (counted (refusalCounter (refusalNumber refusal) refusedCounter) (gc .stats)) (gc .latches) ⌝ }
+{
+    let mut next = gc;
+    next.stats = counted_refusal(refusal, gc.stats);
+    next
+}
+
 // A read by the processor: it loads all four latches, whichever plane is asked for, under chain-four at the offset with its low two bits clear.
 pub fn cpu_read_u8(
     gc: GraphicsController,
@@ -113,7 +124,7 @@ pub fn cpu_read_u8(
     match judge_address(fits, good, map, chain, shape.p0, address, page) {
         MappedAnswer::Refused(x) => CpuByte {
             answer: ByteAnswer::Refused(x),
-            gc,
+            gc: turned_away(gc, x),
         },
         MappedAnswer::Done(found, _) => {
             let offset = found.0;
@@ -197,7 +208,7 @@ pub fn cpu_write_u8(
     match judge_address(fits, good, map, chain, shape.p0, address, page) {
         MappedAnswer::Refused(x) => CpuStore {
             answer: StoreAnswer::Refused(x),
-            gc,
+            gc: turned_away(gc, x),
         },
         MappedAnswer::Done(offset, a0) => {
             let at = offset.0;

@@ -5,6 +5,7 @@ mod select;
 
 pub use compare::pixel_op_compare;
 pub use count::counted_read;
+pub use count::counted_refusal;
 pub use count::counted_write;
 pub use select::peeked_plane;
 pub use select::selected_plane;

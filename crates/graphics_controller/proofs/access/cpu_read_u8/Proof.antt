@@ -57,6 +57,9 @@ judge-address-requires c κs = search needs
 enum-known-x : tie.Need-enum-known-x
 enum-known-x c = search needs
 
+turned-away-requires : tie.Need-turned-away-requires
+turned-away-requires c κs = search needs
+
 enum-known-found : tie.Need-enum-known-found
 enum-known-found c = search needs
 
@@ -95,7 +98,7 @@ returns c =
     let start = start-of after-judge-address in
     let a = start .args in
     let n = unlocated _ _ _ _ (a0 (a .address)) (address-judged after-judge-address) _ (after-x .x .given .1) in
-    read-refused (a .gc) (a .seq) (lent-to start) (a .address) (a .page) _ (refusal-some (after-x .x .given .0 .0)) n
+    read-refused (a .gc) (a .seq) (lent-to start) (a .address) (a .page) _ _ (refusal-some (after-x .x .given .0 .0)) n (c .turned-away .ensures)
 
 returns-2 : tie.Need-returns-2
 unfolding start-of
@@ -120,6 +123,7 @@ cpu-read-u8-spec =
     chain-odd-even-requires
     judge-address-requires
     enum-known-x
+    turned-away-requires
     enum-known-found
     stored-at-requires
     load-requires

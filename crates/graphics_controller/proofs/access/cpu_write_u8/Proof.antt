@@ -55,6 +55,9 @@ judge-address-requires c κs = search needs
 enum-known-x : tie.Need-enum-known-x
 enum-known-x c = search needs
 
+turned-away-requires : tie.Need-turned-away-requires
+turned-away-requires c κs = search needs
+
 enum-known-offset : tie.Need-enum-known-offset
 enum-known-offset c = search needs
 
@@ -82,7 +85,7 @@ returns c =
     let start = start-of after-judge-address in
     let a = start .args in
     let n = unlocated _ _ _ _ (a0 (a .address)) (address-judged after-judge-address) _ (after-x .x .given .1) in
-    write-refused (a .gc) (a .seq) (lent-to start) (a .address) (a .page) (a .byte) _ (refusal-some (after-x .x .given .0 .0)) n
+    write-refused (a .gc) (a .seq) (lent-to start) (a .address) (a .page) (a .byte) _ _ (refusal-some (after-x .x .given .0 .0)) n (c .turned-away .ensures)
 
 same-length : tie.Need-same-length
 same-length c = search needs
@@ -122,6 +125,7 @@ cpu-write-u8-spec =
     chain-odd-even-requires
     judge-address-requires
     enum-known-x
+    turned-away-requires
     enum-known-offset
     write-planes-requires
     write-done-requires
