@@ -1,6 +1,7 @@
 /* Iddesmar for C11 and C++11: MartyPC's VGA video memory, proved. Link target/staticlib/libhost.a (x86-64 Linux); host/README.md has the rest.
  *
- * Every call takes any input and says what became of it by a number: 0 is done, anything else is a refusal, and then nothing has changed.
+ * Every call takes any input and says what became of it by a number: 0 is done, anything else is a refusal, and then nothing has changed, with one
+ * exception: a read or a write of the processor that is refused with 2 or 3 has raised `stats.refused_accesses` by one, and that alone.
  * Memory is lent for the length of a call: four planes of n bytes each, 1 to 65,536, and a picture of 8n bytes, one for each pixel. Each pointer
  * must be good for as many bytes as are said beside it, and the five must overlap neither one another nor a record; the library reads and writes
  * nothing else and keeps nothing. No pointer may be null, one with a length of 0 included, and that to a record must be aligned as C aligns the
@@ -8,7 +9,7 @@
 #ifndef IDDESMAR_H
 #define IDDESMAR_H
 
-#define IDDESMAR_VERSION "0.4.0"
+#define IDDESMAR_VERSION "0.5.0"
 
 #if defined(__has_include)
 #if __has_include(<stdint.h>) && __has_include(<stddef.h>)
@@ -34,7 +35,7 @@ extern "C" {
 #define IDDESMAR_ASSERT(fact) _Static_assert(fact, #fact)
 #endif
 
-/* An answer's number. A refusal leaves records and memory as they were handed in, and its value is 0. */
+/* An answer's number. A refusal's value is 0, and it leaves records and memory as they were handed in; the exception is named above. */
 enum {
     IDDESMAR_DONE = 0,
     IDDESMAR_MEMORY = 1, /* plane lengths differ, n is 0 or above 65,536, or the picture isn't 8n long */
@@ -46,7 +47,7 @@ enum {
     IDDESMAR_SHIFT = 9   /* a show while the shift mode is Chain4 or CGACompatible */
 };
 
-/* The accepted reads and writes of the processor, by mode. */
+/* The processor's reads and writes: the accepted ones by mode, and those refused with 2 or 3. Each goes back to 0 after 4,294,967,295. */
 typedef struct iddesmar_stats {
     uint32_t mode_0_writes;
     uint32_t mode_1_writes;
@@ -54,10 +55,12 @@ typedef struct iddesmar_stats {
     uint32_t mode_3_writes;
     uint32_t mode_0_reads;
     uint32_t mode_1_reads;
+    uint32_t refused_accesses;
 } iddesmar_stats;
 
 /* The graphics controller: counters, the address, the selected register's number (0 to 8), nine registers, four latches, and a byte of the host's own.
- * Each of the 40 bytes is a field's: a refused call leaves all of them, and every call leaves `spare`, whatever it holds; `iddesmar_gc_new` gives 0 there. */
+ * Each of the 44 bytes is a field's: a refused call leaves all of them but that one counter, and every call leaves `spare`, whatever it holds; `iddesmar_gc_new`
+ * gives 0 there. */
 typedef struct iddesmar_gc {
     iddesmar_stats stats;
     uint8_t register_select_byte;
@@ -121,12 +124,13 @@ typedef struct iddesmar_seq_answer {
     iddesmar_seq seq;
 } iddesmar_seq_answer;
 
-IDDESMAR_ASSERT(sizeof(iddesmar_stats) == 24);
-IDDESMAR_ASSERT(sizeof(iddesmar_gc) == 40);
-IDDESMAR_ASSERT(offsetof(iddesmar_gc, register_select_byte) == 24);
-IDDESMAR_ASSERT(offsetof(iddesmar_gc, bitmask) == 34);
-IDDESMAR_ASSERT(offsetof(iddesmar_gc, latches) == 35);
-IDDESMAR_ASSERT(offsetof(iddesmar_gc, spare) == 39);
+IDDESMAR_ASSERT(sizeof(iddesmar_stats) == 28);
+IDDESMAR_ASSERT(offsetof(iddesmar_stats, refused_accesses) == 24);
+IDDESMAR_ASSERT(sizeof(iddesmar_gc) == 44);
+IDDESMAR_ASSERT(offsetof(iddesmar_gc, register_select_byte) == 28);
+IDDESMAR_ASSERT(offsetof(iddesmar_gc, bitmask) == 38);
+IDDESMAR_ASSERT(offsetof(iddesmar_gc, latches) == 39);
+IDDESMAR_ASSERT(offsetof(iddesmar_gc, spare) == 43);
 IDDESMAR_ASSERT(sizeof(iddesmar_seq) == 16);
 IDDESMAR_ASSERT(offsetof(iddesmar_seq, clock_change_pending) == 7);
 IDDESMAR_ASSERT(offsetof(iddesmar_seq, clock_divisor) == 8);

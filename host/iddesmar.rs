@@ -1,7 +1,8 @@
 //! Iddesmar for Rust: MartyPC's VGA video memory, proved, behind a safe face with MartyPC's own names. `mod iddesmar;` and link
 //! target/staticlib/libhost.a (x86-64 Linux): `rustc --edition 2021 -L target/staticlib ..`. host/README.md has the rest.
 //!
-//! Every call takes any input and none panics; what it refuses is an `Err` with the reason, and then nothing has changed. The library is handed
+//! Every call takes any input and none panics; what it refuses is an `Err` with the reason, and then nothing has changed, with one exception: a read or a
+//! write of the processor that is refused with `Window` or `Offset` has raised `stats.refused_accesses` by one, and that alone. The library is handed
 //! slices that Rust itself has borrowed, each with its own length, so no call can reach outside them.
 //!
 //! A state is saved as the two records (`record`, plain data with public fields, laid out as in C) and the bytes of `Vram`, and comes back by
@@ -86,7 +87,7 @@ pub enum ShiftMode {
 
 // ---- what crosses the boundary
 
-/// The accepted reads and writes of the processor, by mode.
+/// The processor's reads and writes: the accepted ones by mode, and those refused with 2 or 3. Each goes back to 0 after 4,294,967,295.
 #[derive(Clone, Copy, Debug, PartialEq, Eq)]
 #[repr(C)]
 pub struct GraphicsControllerStats {
@@ -96,6 +97,7 @@ pub struct GraphicsControllerStats {
     pub mode_3_writes: u32,
     pub mode_0_reads: u32,
     pub mode_1_reads: u32,
+    pub refused_accesses: u32,
 }
 
 /// The graphics controller's record; the selected register by its number.
@@ -188,12 +190,13 @@ struct SequencerAnswer {
 }
 
 const _: () = {
-    assert!(size_of::<GraphicsControllerStats>() == 24);
-    assert!(size_of::<ControllerRecord>() == 40);
-    assert!(offset_of!(ControllerRecord, register_select_byte) == 24);
-    assert!(offset_of!(ControllerRecord, bitmask) == 34);
-    assert!(offset_of!(ControllerRecord, latches) == 35);
-    assert!(offset_of!(ControllerRecord, spare) == 39);
+    assert!(size_of::<GraphicsControllerStats>() == 28);
+    assert!(offset_of!(GraphicsControllerStats, refused_accesses) == 24);
+    assert!(size_of::<ControllerRecord>() == 44);
+    assert!(offset_of!(ControllerRecord, register_select_byte) == 28);
+    assert!(offset_of!(ControllerRecord, bitmask) == 38);
+    assert!(offset_of!(ControllerRecord, latches) == 39);
+    assert!(offset_of!(ControllerRecord, spare) == 43);
     assert!(size_of::<SequencerRecord>() == 16);
     assert!(offset_of!(SequencerRecord, clock_change_pending) == 7);
     assert!(offset_of!(SequencerRecord, clock_divisor) == 8);

@@ -65,7 +65,7 @@ static void digest(void) {
     for (int i = 0; i < 7; i++) printf(" %u", kept[i]);
     printf(" %u %u %u", seq.clock_change_pending, seq.clock_divisor, seq.char_clock);
     for (int i = 0; i < 4; i++) printf(" %u", gc.latches[i]);
-    for (int i = 0; i < 6; i++) printf(" %u", counters[i]);
+    for (int i = 0; i < 7; i++) printf(" %u", counters[i]);
     for (int i = 0; i < 4; i++) sum(planes[i], N);
     sum(picture, 8 * N);
     putchar('\n');
@@ -218,8 +218,10 @@ static void controller_accesses(guarded *g) {
         g->gc.mode = (uint8_t)i;
         for (int k = 0; k < 1 + i; k++) iddesmar_gc_cpu_write_u8(&g->gc, seq, ALL, 0xA0000, 0, 0);
     }
+    for (int k = 0; k < 3; k++) iddesmar_gc_cpu_read_u8(&g->gc, seq, ALL, 0x9FFFF, 0);
+    for (int k = 0; k < 4; k++) iddesmar_gc_cpu_write_u8(&g->gc, seq, ALL, 0xC0000, 0, 0);
     const uint32_t *counters = &g->gc.stats.mode_0_writes;
-    for (int i = 0; i < 6; i++) expect("a counter", counters[i], (u64)(1 + i));
+    for (int i = 0; i < 7; i++) expect("a counter", counters[i], (u64)(1 + i));
 }
 
 static void sequencer_fields(void) {
@@ -249,6 +251,9 @@ static void unknown_registers(void) {
     gc.register_selected = 9;
     expect("write_data of register 9", iddesmar_gc_write_data(&gc, 5).number, IDDESMAR_STATE);
     expect("a write with register 9", iddesmar_gc_cpu_write_u8(&gc, seq, ALL, 0xA0000, 0, 5).number, IDDESMAR_STATE);
+    expect("a write outside the window with register 9", iddesmar_gc_cpu_write_u8(&gc, seq, ALL, 0x9FFFF, 0, 5).number, IDDESMAR_STATE);
+    expect("a read outside the window with register 9", iddesmar_gc_cpu_read_u8(&gc, seq, ALL, 0x9FFFF, 0).number, IDDESMAR_STATE);
+    expect("refused_accesses with register 9", gc.stats.refused_accesses, 0);
     expect("a show with register 9", iddesmar_gc_serialize(gc, seq, ALL, 0).number, IDDESMAR_STATE);
     expect("register_selected", gc.register_selected, 9);
     expect("reset of register 9", iddesmar_gc_reset(&gc).number, IDDESMAR_DONE);
@@ -259,7 +264,7 @@ static void unknown_registers(void) {
     expect("reset of register 6", iddesmar_seq_reset(seq).answer.number, IDDESMAR_DONE);
 }
 
-/* ---- refusals: every byte of a record stays, whatever it holds */
+/* ---- refusals: every byte of a record stays, whatever it holds, but for the counter of accesses turned away */
 
 /* A record of bytes that are told apart from one another, and the other for each seed; the spare byte and the mark take every number. */
 static void fill(void *record, size_t size, int seed) {
@@ -322,12 +327,15 @@ static void seq_refused(const char *what, iddesmar_seq_answer a, iddesmar_seq gi
     same(what, &a.seq, &given, sizeof given);
 }
 
-/* An access of the processor that is refused with this number, as a read and as a write. */
+/* An access of the processor that is refused with this number, as a read and as a write: each is counted where the number is 2 or 3. */
 static void accesses_refused(unsigned number, iddesmar_gc given, iddesmar_seq s, iddesmar_memory m, size_t shorter, size_t address) {
     iddesmar_gc left = given;
+    uint32_t counted = number == IDDESMAR_WINDOW || number == IDDESMAR_OFFSET;
     iddesmar_answer a = iddesmar_gc_cpu_read_u8(&left, s, m.planes[0], m.n, m.planes[1], m.n, m.planes[2], m.n, m.planes[3], m.n - shorter, m.picture, 8 * m.n, address, 1);
+    given.stats.refused_accesses += counted;
     gc_refused("a refused read", a, number, &left, given);
     a = iddesmar_gc_cpu_write_u8(&left, s, m.planes[0], m.n, m.planes[1], m.n, m.planes[2], m.n, m.planes[3], m.n - shorter, m.picture, 8 * m.n, address, 1, 0x3C);
+    given.stats.refused_accesses += counted;
     gc_refused("a refused write", a, number, &left, given);
 }
 
@@ -336,6 +344,7 @@ static void gc_unfit(iddesmar_gc given, iddesmar_seq s) {
     gc_refused("a refused write_address", iddesmar_gc_write_address(&left, 7), IDDESMAR_STATE, &left, given);
     gc_refused("a refused write_data", iddesmar_gc_write_data(&left, 7), IDDESMAR_STATE, &left, given);
     accesses_refused(IDDESMAR_STATE, given, s, memory, 0, 0xA0000);
+    accesses_refused(IDDESMAR_STATE, given, s, memory, 0, 0x9FFFF);
 }
 
 static void seq_unfit(iddesmar_seq given) {
@@ -344,6 +353,7 @@ static void seq_unfit(iddesmar_seq given) {
     seq_refused("a refused set_clock_change_pending", iddesmar_seq_set_clock_change_pending(given), given);
     seq_refused("a refused poll_clock_change", iddesmar_seq_poll_clock_change(given), given);
     accesses_refused(IDDESMAR_STATE, fitting_gc(given.clock_change_pending), given, memory, 0, 0xA0000);
+    accesses_refused(IDDESMAR_STATE, fitting_gc(given.clock_change_pending), given, memory, 0, 0x9FFFF);
 }
 
 static void refusals(int seed) {
@@ -364,15 +374,18 @@ static void refusals(int seed) {
     g = fitting_gc(seed);
     s = fitting_seq(seed);
     accesses_refused(IDDESMAR_MEMORY, g, s, memory, 1, 0xA0000);
+    accesses_refused(IDDESMAR_MEMORY, g, s, memory, 1, 0x9FFFF);
     accesses_refused(IDDESMAR_WINDOW, g, s, memory, 0, 0x9FFFF);
     accesses_refused(IDDESMAR_OFFSET, g, s, small, 0, 0xA0010);
+    g.stats.refused_accesses = 0xFFFFFFFFu;
+    accesses_refused(IDDESMAR_WINDOW, g, s, memory, 0, 0xB0000);
 }
 
 /* ---- accepted calls: the spare byte stays, and the mark is 0 or 1 */
 
 static void spare_kept(const char *what, iddesmar_answer a, const iddesmar_gc *left, int seed) {
     expect(what, a.number, IDDESMAR_DONE);
-    expect(what, left->spare, (uint8_t)(seed + 37 * 39));
+    expect(what, left->spare, (uint8_t)(seed + 37 * offsetof(iddesmar_gc, spare)));
 }
 
 static void marked(const char *what, iddesmar_seq_answer a, unsigned value, unsigned mark) {
@@ -457,7 +470,7 @@ static int layout(void) {
         store_flag(seed);
         page_flag(seed);
     }
-    if (!wrong) printf("layout: the library has each field where C has it, and a refused call leaves every byte\n");
+    if (!wrong) printf("layout: the library has each field where C has it, and a refused call leaves every byte but the count of accesses turned away\n");
     return wrong != 0;
 }
 

@@ -64,7 +64,7 @@ impl Host<'_> {
         let mut all: Vec<u32> = bytes.map(u32::from).to_vec();
         all.extend([seq.clock_divisor, seq.char_clock]);
         all.extend(gc.latches.map(u32::from));
-        all.extend([stats.mode_0_writes, stats.mode_1_writes, stats.mode_2_writes, stats.mode_3_writes, stats.mode_0_reads, stats.mode_1_reads]);
+        all.extend([stats.mode_0_writes, stats.mode_1_writes, stats.mode_2_writes, stats.mode_3_writes, stats.mode_0_reads, stats.mode_1_reads, stats.refused_accesses]);
         all.extend((0..4).flat_map(|plane| sum(vram.plane(plane).unwrap_or(&[]))));
         all.extend(sum(vram.picture()));
         format!("0 {}", all.iter().map(u32::to_string).collect::<Vec<_>>().join(" "))
@@ -162,6 +162,23 @@ fn refusals() -> bool {
     })
 }
 
+/// Reads and writes outside the window and past the planes are counted; a peek and a show that are refused are not, and a reset clears the count.
+fn turned_away() -> bool {
+    let mut seq = Sequencer::over(Vram::over([vec![0; 16], vec![0; 16], vec![0; 16], vec![0; 16]], vec![0; 128]));
+    let mut gc = GraphicsController::new();
+    let fresh = *gc.record();
+    let low = PageSelect::LowPage;
+    let refused = gc.cpu_read_u8(&seq, 0x9FFFF, low) == Err(Refusal::Window)
+        && gc.cpu_write_u8(&mut seq, 0x9FFFF, low, 1) == Err(Refusal::Window)
+        && gc.cpu_read_u8(&seq, 0xA0010, low) == Err(Refusal::Offset)
+        && gc.cpu_write_u8(&mut seq, 0xA0010, low, 1) == Err(Refusal::Offset)
+        && gc.cpu_peek_u8(&seq, 0x9FFFF, low) == Err(Refusal::Window)
+        && gc.serialize(&seq, 16) == Err(Refusal::Place);
+    let counted = gc.record().stats.refused_accesses == 4 && iddesmar::GraphicsControllerStats { refused_accesses: 0, ..gc.record().stats } == fresh.stats;
+    gc.reset();
+    refused && counted && *gc.record() == fresh
+}
+
 /// The memory of a sequencer, copied.
 fn copied<B: AsRef<[u8]> + AsMut<[u8]>>(vram: &Vram<B>) -> Vram {
     let plane = |number: usize| vram.plane(number).unwrap_or(&[]).to_vec();
@@ -223,7 +240,7 @@ fn run() -> i32 {
         writeln!(out, "{line_number} {operation} {}", host.call(*operation, &x)).expect("a line out");
     }
     out.flush().expect("lines out");
-    let tried = [("refusals", refusals()), ("a saved state restored", round_trip(&mut host)), ("unknown records and planes", unknown())];
+    let tried = [("refusals", refusals()), ("accesses turned away", turned_away()), ("a saved state restored", round_trip(&mut host)), ("unknown records and planes", unknown())];
     for (what, _) in tried.iter().filter(|(_, holds)| !holds) {
         eprintln!("test-rust: {what}: not as it should be");
     }

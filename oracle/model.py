@@ -1,6 +1,6 @@
 #!/usr/bin/env python3
-"""Document 01 once more, bit by bit, with write mode 3 as K1 has it and reads under chain-four as K4 has them: reads a list of calls on standard input
-and prints a line for each, as oracle/README.md says. It shares no text with the port; oracle/make-cases makes the expected lines of the lists of cases with it.
+"""Document 01 once more, bit by bit, with write mode 3 as K1 has it, reads under chain-four as K4 has them and accesses turned away counted as K8 asks:
+reads a list of calls on standard input and prints a line for each, as oracle/README.md says. It shares no text with the port; oracle/make-cases makes the expected lines of the lists of cases with it.
 
     oracle/model.py < LIST      takes no argument"""
 import re
@@ -8,9 +8,10 @@ import sys
 from functools import partial
 from itertools import accumulate
 
-# the controller's record, in the order of the digest: 0 address, 1 selected register, 2 to 10 registers, 11 to 14 latches, 15 to 20 counters
+# the controller's record, in the order of the digest: 0 address, 1 selected register, 2 to 10 registers, 11 to 14 latches, 15 to 21 counters
 ADDRESS, SELECTED, SET_RESET, ENABLE, COMPARE, ROTATE, MAP_SELECT, MODE, MISCELLANEOUS, DONT_CARE, BIT_MASK, LATCHES = range(12)
 COUNTERS = 15
+TURNED_AWAY = 6
 # the sequencer's record: its address and selected register have the same places
 _, CLOCKING, MAP_MASK, _, MEMORY_MODE, MARK, DIVISOR, CLOCK = range(2, 10)
 INVALID = 5
@@ -20,7 +21,7 @@ SEQ_MOST = [3, 63, 15, 63, 63]
 CGA, CHAIN4 = 1, 2
 # set, and, or
 STORES = [lambda old, byte: byte, lambda old, byte: old & byte, lambda old, byte: old | byte]
-GC_START, SEQ_START = [0] * 21, [0] * 8 + [1, 9]
+GC_START, SEQ_START = [0] * 22, [0] * 8 + [1, 9]
 
 
 class Refused(Exception):
@@ -187,6 +188,15 @@ class Model:
         self.judge_offset(offset)
         return offset, a0
 
+    def accessed(self, address, page):
+        """Where a read or a write leads: unlike a peek it counts the refusals 2 and 3."""
+        try:
+            return self.accepted(address, page)
+        except Refused as refused:
+            if refused.args[0] in (2, 3):
+                self.count(TURNED_AWAY)
+            raise
+
     def count(self, which):
         self.gc[COUNTERS + which] = (self.gc[COUNTERS + which] + 1) % 2 ** 32
 
@@ -195,7 +205,7 @@ class Model:
         return (offset % 4, offset - offset % 4) if self.chain_four() else (plane, offset)
 
     def cpu_read(self, address, page):
-        offset, a0 = self.accepted(address, page)
+        offset, a0 = self.accessed(address, page)
         select = self.gc[MAP_SELECT]
         plane, at = self.looked_at(offset, select - select % 2 + a0 if bit(self.gc[MODE], 4) else select)
         latches = self.gc[LATCHES:COUNTERS] = [self.memory[p][at] for p in range(4)]
@@ -211,7 +221,7 @@ class Model:
         return self.memory[plane][at]
 
     def cpu_write(self, address, page, byte):
-        offset, a0 = self.accepted(address, page)
+        offset, a0 = self.accessed(address, page)
         mode = self.gc[MODE] % 4
         self.count(mode)
         visited = [a0, 2 + a0] if bit(self.gc[MODE], 4) else range(4)
@@ -242,7 +252,7 @@ class Model:
 
     # what no port and no call does
     def put_gc_field(self, field, value):
-        if field < 21 and (field != SELECTED or value % 256 <= 8):
+        if field < 22 and (field != SELECTED or value % 256 <= 8):
             self.gc[field] = value % (256 if field < COUNTERS else 2 ** 32)
 
     def put_seq_field(self, field, value):

@@ -147,7 +147,7 @@ def counters():
 
 
 def outside():
-    case("outside the window and at an offset of n or more, whatever the mode and the mask: nothing moves")
+    case("outside the window and at an offset of n or more, whatever the mode and the mask: nothing moves but the count of accesses turned away")
     lend_all(2)
     fill([0, 1], [0x12, 0x34, 0x56, 0x78], 0x0E)
     for mode, map_mask, address in [(0, 15, 0x9FFFF), (0, 15, 0xB0000), (0, 15, 0xA0002), (3, 15, 0xA0002), (0, 0, 0xAFFFF), (8, 15, HUGE)]:
@@ -445,4 +445,83 @@ def direct_reads():
         calls((1, 2, 5), (2, 2, 5), (3, 5), (4, 40), (5, 5), (19, 2, 5, 1), (20, 2, 5, 1), (21, 2, 5, 1), (22, 40), (23, 5), (41, 5), (DIGEST,))
 
 
-PARTS = ports, addresses, modes, reads, masks, counters, outside, shows, refusals, lengths, orders, bit_14, one_plane, mode_3, chain_four
+def every_count(turned=7):
+    """Latches 11, 22, 33, 44, counters 1 to 6, and so many accesses turned away."""
+    calls(*((GC_FIELD, 11 + plane, 0x11 * (plane + 1)) for plane in range(4)), *((GC_FIELD, 15 + i, i + 1) for i in range(6)), (GC_FIELD, 21, turned))
+
+
+def astray(*places):
+    """A read and a write at each address and page, the whole state after each."""
+    for address, page in places:
+        calls((38, address, page), (DIGEST,), (40, address, page, 0x5A), (DIGEST,))
+
+
+def turned_away():
+    """It comes last, so that older lines keep their numbers. It stores nothing."""
+    lend_all(8)
+    masked()
+    for mode in 0, 1, 2, 3, 8, 9, 10, 11:
+        case(f"Mode {mode}: a read and a write refused with 2, then with 3, are counted, and nothing else moves")
+        of_mode(mode)
+        every_count()
+        astray((0x9FFFF, 0), (0xA0008, 0))
+    case("the map without a window, a page bit that leads past n, chain-four, an address past 32 bits")
+    of_mode(0, (6, 8))
+    every_count()
+    astray((0xB0000, 0), (0xB8000, 1))
+    lend_all(1)
+    of_mode(0, (6, 6))
+    every_count()
+    astray((0xA0000, 1))
+    lend_all(6)
+    masked(15, 12)
+    of_mode(0)
+    every_count()
+    astray((0xA0006, 0), (HUGE + 0xA0000, 0))
+    lend_all(8)
+    masked(0)
+    case("Map Mask 0: a write at n is refused and counted, below n it is accepted, and counted in its mode")
+    of_mode(0)
+    every_count()
+    calls((40, 0xA0008, 0, 0x5A), (DIGEST,), (40, 0xA0007, 0, 0x5A), (DIGEST,), (38, 0xA0007, 0), (DIGEST,))
+    uncounted()
+    for which, address in (38, 0x9FFFF), (38, 0xA0008), (40, 0x9FFFF), (40, 0xA0008):
+        case(f"4,294,967,295 turned away and one more, by operation {which}; then another")
+        of_mode(0)
+        every_count(2 ** 32 - 1)
+        calls(*[(which, address, 0) + (0x5A,) * (which == 40), (DIGEST,)] * 2)
+    case("the sequencer's reset leaves the count, the controller's clears it; then one is turned away")
+    every_count()
+    calls((11,), (DIGEST,), (27,), (DIGEST,), (38, 0, 0), (DIGEST,))
+    masked()
+
+
+def uncounted():
+    case("no peek is counted, no map_address, no show, no direct call, no port")
+    of_mode(0)
+    every_count()
+    calls((39, 0x9FFFF, 0), (39, 0xA0008, 0), (37, 0x9FFFF, 0), (41, 8), (DIGEST,))
+    calls((1, 0, 8), (1, 4, 0), (6, 0, 8, 0x5A), (10, 8), (4, 64), (19, 0, 8, 0), (21, 4, 0, 0), (24, 0, 8, 0, 0x5A), (22, 64), (DIGEST,))
+    data((5, 0x20))
+    calls((41, 0), (33,), (34,), (15,), (16,), (DIGEST,))
+    for name, (field, value) in zip(NAMES, ABOVE):
+        case(f"{name} {value}: 6 is not counted, within the window, outside it and past n")
+        bad_record(field, value)
+        every_count()
+        calls(*((38, address, 0) for address in (0xA0000, 0x9FFFF, 0xA0008)), *((40, address, 0, 0x5A) for address in (0xA0000, 0x9FFFF, 0xA0008)), (DIGEST,))
+    of_mode(0)
+    every_count()
+    for name, register, most in zip(SEQ_NAMES, range(2, 7), AT_BOUND):
+        case(f"sequencer {name} {most + 1}: 6 is not counted")
+        masked()
+        call(SEQ_FIELD, register, most + 1)
+        calls((38, 0xA0000, 0), (38, 0x9FFFF, 0), (40, 0x9FFFF, 0, 0x5A), (40, 0xA0008, 0, 0x5A), (DIGEST,))
+    masked()
+    case("lengths that are refused: 1 is not counted")
+    for lent in (0, 0, 0, 0, 0), (8, 7, 8, 8, 64), (8, 8, 8, 7, 64), (8, 8, 8, 8, 63), (65537, 65537, 65537, 65537, 524296):
+        lend(*lent)
+        calls((38, 0xA0000, 0), (38, 0x9FFFF, 0), (40, 0x9FFFF, 0, 0x5A), (40, 0xA0008, 0, 0x5A), (DIGEST,))
+    lend_all(8)
+
+
+PARTS = ports, addresses, modes, reads, masks, counters, outside, shows, refusals, lengths, orders, bit_14, one_plane, mode_3, chain_four, turned_away

@@ -29,14 +29,27 @@ pub type Answer = (u8, Value);
 pub struct Device {
     pub gc: GraphicsController,
     pub seq: Sequencer,
+    /// K8's seventh counter, which the Rust has not: reads and writes of the processor answered 2, since the controller's reset.
+    pub refused_accesses: u32,
 }
 
 impl Device {
     pub fn new() -> Device {
-        Device { gc: GraphicsController::new(), seq: Sequencer::new() }
+        Device { gc: GraphicsController::new(), seq: Sequencer::new(), refused_accesses: 0 }
     }
 
     pub fn perform(&mut self, call: &Call) -> Answer {
+        let answer = self.answered(call);
+        match (call.operation, answer.0) {
+            (GC_RESET, _) => self.refused_accesses = 0,
+            (GC_CPU_READ_U8 | GC_CPU_WRITE_U8, 2) => self.refused_accesses = self.refused_accesses.wrapping_add(1),
+            _ => {}
+        }
+        answer
+    }
+
+    /// What the Rust answers.
+    fn answered(&mut self, call: &Call) -> Answer {
         match call.operation {
             VRAM_READ_U8..=VRAM_DEPLANE => (0, self.vram(call)),
             SEQ_RESET..=SEQ_WRITE_DATA => (0, self.sequencer(call)),

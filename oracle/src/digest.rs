@@ -3,7 +3,7 @@
 use crate::device::Device;
 
 /// The names of a digest's numbers, in their order.
-pub const FIELDS: [&str; 41] = [
+pub const FIELDS: [&str; 42] = [
     "gc address",
     "gc selected",
     "set_reset",
@@ -35,6 +35,7 @@ pub const FIELDS: [&str; 41] = [
     "mode_3_writes",
     "mode_0_reads",
     "mode_1_reads",
+    "refused_accesses",
     "plane 0 (s1)",
     "plane 0 (s2)",
     "plane 1 (s1)",
@@ -53,6 +54,7 @@ pub fn digest(device: &Device) -> String {
     sequencer(device, &mut numbers);
     numbers.extend(device.gc.latches().map(u32::from));
     numbers.extend(device.gc.counters());
+    numbers.push(device.refused_accesses);
     for plane in 0..4 {
         numbers.extend(checksum(device.seq.vram.plane_slice(plane)));
     }

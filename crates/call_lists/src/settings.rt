@@ -94,6 +94,7 @@ fn counter(counts: GraphicsControllerStats, field: usize, n: u32) -> GraphicsCon
         18 => next.mode_3_writes = n,
         19 => next.mode_0_reads = n,
         20 => next.mode_1_reads = n,
+        21 => next.refused_accesses = n,
         _ => {}
     }
     next

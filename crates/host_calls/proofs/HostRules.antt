@@ -8,7 +8,7 @@ use Rattle.bits.specs.Bit.{bitOf}
 use Rattle.machine.specs.Memory.{mem}
 use Rattle.machine.specs.Answers.{one, Outcome}
 use Rattle.machine.specs.Calls.{SequencerCall, seqReset, seqSetClockChangePending, seqPollClockChange, seqWriteAddress, seqWriteData}
-use Rattle.machine.specs.Calls.{GraphicsCall, gcReset, gcWriteAddress, gcWriteData, CpuCall, cpuRead, cpuWrite}
+use Rattle.machine.specs.Calls.{GraphicsCall, gcReset, gcWriteAddress, gcWriteData, CpuCall, cpuRead, cpuPeek, cpuWrite}
 use Rattle.machine.specs.Step.{lifted, sequencerStep, graphicsStep}
 use Rattle.machine.proofs.Computed.{computed}
 use Rattle.answers.proofs.Told.{firstOf}
@@ -93,7 +93,7 @@ sequencer-rules = refl
 -- one of its selected register and Set/Reset, the other fields told apart; A0000 for 64K, plane 1 selected, the host's own byte 5A
 gcAt : ℕ → ℕ → ControllerRecord
 gcAt q x = record {
-  stats = record { «mode_0_writes» = 1; «mode_1_writes» = 2; «mode_2_writes» = 3; «mode_3_writes» = 4; «mode_0_reads» = 5; «mode_1_reads» = 6 };
+  stats = record { «mode_0_writes» = 1; «mode_1_writes» = 2; «mode_2_writes» = 3; «mode_3_writes» = 4; «mode_0_reads» = 5; «mode_1_reads» = 6; «refused_accesses» = 18 };
   «register_select_byte» = 7;
   «register_selected» = q;
   «set_reset» = x;
@@ -113,7 +113,7 @@ gcAt q x = record {
 gcLeft : ℕ → ℕ → ControllerRecord → List ℕ
 gcLeft n x g =
     let c = g .stats in
-    (n ∷ x ∷ c .«mode_0_writes» ∷ c .«mode_1_writes» ∷ c .«mode_2_writes» ∷ c .«mode_3_writes» ∷ c .«mode_0_reads» ∷ c .«mode_1_reads» ∷ [])
+    (n ∷ x ∷ c .«mode_0_writes» ∷ c .«mode_1_writes» ∷ c .«mode_2_writes» ∷ c .«mode_3_writes» ∷ c .«mode_0_reads» ∷ c .«mode_1_reads» ∷ c .«refused_accesses» ∷ [])
     ++ (g .«register_select_byte» ∷ g .«register_selected» ∷ g .«set_reset» ∷ g .«enable_set_reset» ∷ g .«color_compare» ∷ g .«data_rotate» ∷ g .«read_map_select»
     ∷ g .mode ∷ g .miscellaneous ∷ g .«color_dont_care» ∷ g .bitmask ∷ g .spare ∷ g .latches)
 
@@ -144,9 +144,16 @@ controllerRows =
     ∷ cpuSays (gcAt 9 3) (seqAt 0 3 2) (cpuRead 0xA0000 false)
     ∷ cpuSays (gcAt 0 3) (seqAt 6 3 2) (cpuWrite 0xA0000 false 0x77)
     ∷ cpuSays (gcAt 0 3) (seqAt 0 4 2) (cpuRead 0xA0000 false)
-    -- refusals 2 and 3
+    -- .. outside the window too, where no 2 is counted
+    ∷ cpuSays (gcAt 9 3) (seqAt 0 3 2) (cpuRead 0x9FFFF false)
+    ∷ cpuSays (gcAt 0 3) (seqAt 0 4 2) (cpuWrite 0x9FFFF false 0x77)
+    -- refusals 2 and 3: a read's and a write's are counted, a peek's are not
     ∷ cpuSays (gcAt 0 3) (seqAt 0 3 2) (cpuRead 0x9FFFF false)
+    ∷ cpuSays (gcAt 0 3) (seqAt 0 3 2) (cpuRead 0xA0001 false)
+    ∷ cpuSays (gcAt 0 3) (seqAt 0 3 2) (cpuWrite 0x9FFFF false 0x77)
     ∷ cpuSays (gcAt 0 3) (seqAt 0 3 2) (cpuWrite 0xA0001 false 0x77)
+    ∷ cpuSays (gcAt 0 3) (seqAt 0 3 2) (cpuPeek 0x9FFFF false)
+    ∷ cpuSays (gcAt 0 3) (seqAt 0 3 2) (cpuPeek 0xA0001 false)
     -- accepted: the host's own byte stays; a read loads the latches and counts, and answers plane 0 of A0000, since Memory Mode 14 has chain-four; a write counts
     ∷ gcSays (gcAt 0 3) (gcWriteAddress 4)
     ∷ gcSays (gcAt 0 3) (gcWriteData 0x1E)
@@ -156,12 +163,20 @@ controllerRows =
     ∷ portLeft (lifted (controllerRecordOf 0x5A) (graphicsStep (controllerOf (gcAt 9 16)) gcReset))
     ∷ []
 
--- what is left of gcAt q x where it is as handed in, behind a number
-asItWas : ℕ → ℕ → ℕ → List ℕ
-asItWas n q x = n ∷ 0 ∷ 1 ∷ 2 ∷ 3 ∷ 4 ∷ 5 ∷ 6 ∷ 7 ∷ q ∷ x ∷ 0 ∷ 9 ∷ 0 ∷ 1 ∷ 0 ∷ 5 ∷ 12 ∷ 0xFF ∷ 0x5A ∷ 14 ∷ 15 ∷ 16 ∷ 17 ∷ []
+-- what is left of gcAt q x behind a number, its last counter so
+leftWith : ℕ → ℕ → ℕ → ℕ → List ℕ
+leftWith t n q x = n ∷ 0 ∷ 1 ∷ 2 ∷ 3 ∷ 4 ∷ 5 ∷ 6 ∷ t ∷ 7 ∷ q ∷ x ∷ 0 ∷ 9 ∷ 0 ∷ 1 ∷ 0 ∷ 5 ∷ 12 ∷ 0xFF ∷ 0x5A ∷ 14 ∷ 15 ∷ 16 ∷ 17 ∷ []
+
+-- as handed in
+abbrev asItWas : ℕ → ℕ → ℕ → List ℕ
+asItWas = leftWith 18
+
+-- with an access more turned away
+abbrev oneMore : ℕ → ℕ → ℕ → List ℕ
+oneMore = leftWith 19
 
 pub controllerSaid : List (List ℕ)
-unfolding asItWas
+unfolding leftWith
 controllerSaid =
     (1 ∷ 0 ∷ [])
     ∷ asItWas 6 9 3
@@ -170,15 +185,21 @@ controllerSaid =
     ∷ asItWas 6 9 3
     ∷ asItWas 6 0 3
     ∷ asItWas 6 0 3
+    ∷ asItWas 6 9 3
+    ∷ asItWas 6 0 3
+    ∷ oneMore 2 0 3
+    ∷ oneMore 3 0 3
+    ∷ oneMore 2 0 3
+    ∷ oneMore 3 0 3
     ∷ asItWas 2 0 3
     ∷ asItWas 3 0 3
-    ∷ (0 ∷ 0 ∷ 1 ∷ 2 ∷ 3 ∷ 4 ∷ 5 ∷ 6 ∷ 4 ∷ 4 ∷ 3 ∷ 0 ∷ 9 ∷ 0 ∷ 1 ∷ 0 ∷ 5 ∷ 12 ∷ 0xFF ∷ 0x5A ∷ 14 ∷ 15 ∷ 16 ∷ 17 ∷ [])
-    ∷ (0 ∷ 0 ∷ 1 ∷ 2 ∷ 3 ∷ 4 ∷ 5 ∷ 6 ∷ 7 ∷ 0 ∷ 14 ∷ 0 ∷ 9 ∷ 0 ∷ 1 ∷ 0 ∷ 5 ∷ 12 ∷ 0xFF ∷ 0x5A ∷ 14 ∷ 15 ∷ 16 ∷ 17 ∷ [])
-    ∷ (0 ∷ 0x11 ∷ 1 ∷ 2 ∷ 3 ∷ 4 ∷ 6 ∷ 6 ∷ 7 ∷ 0 ∷ 3 ∷ 0 ∷ 9 ∷ 0 ∷ 1 ∷ 0 ∷ 5 ∷ 12 ∷ 0xFF ∷ 0x5A ∷ 0x11 ∷ 0x22 ∷ 0x33 ∷ 0x44 ∷ [])
-    ∷ (0 ∷ 0 ∷ 2 ∷ 2 ∷ 3 ∷ 4 ∷ 5 ∷ 6 ∷ 7 ∷ 0 ∷ 3 ∷ 0 ∷ 9 ∷ 0 ∷ 1 ∷ 0 ∷ 5 ∷ 12 ∷ 0xFF ∷ 0x5A ∷ 14 ∷ 15 ∷ 16 ∷ 17 ∷ [])
-    ∷ (0 ∷ 0 ∷ 0 ∷ 0 ∷ 0 ∷ 0 ∷ 0 ∷ 0 ∷ 0 ∷ 0 ∷ 0 ∷ 0 ∷ 0 ∷ 0 ∷ 0 ∷ 0 ∷ 0 ∷ 0 ∷ 0 ∷ 0x5A ∷ 0 ∷ 0 ∷ 0 ∷ 0 ∷ [])
+    ∷ (0 ∷ 0 ∷ 1 ∷ 2 ∷ 3 ∷ 4 ∷ 5 ∷ 6 ∷ 18 ∷ 4 ∷ 4 ∷ 3 ∷ 0 ∷ 9 ∷ 0 ∷ 1 ∷ 0 ∷ 5 ∷ 12 ∷ 0xFF ∷ 0x5A ∷ 14 ∷ 15 ∷ 16 ∷ 17 ∷ [])
+    ∷ (0 ∷ 0 ∷ 1 ∷ 2 ∷ 3 ∷ 4 ∷ 5 ∷ 6 ∷ 18 ∷ 7 ∷ 0 ∷ 14 ∷ 0 ∷ 9 ∷ 0 ∷ 1 ∷ 0 ∷ 5 ∷ 12 ∷ 0xFF ∷ 0x5A ∷ 14 ∷ 15 ∷ 16 ∷ 17 ∷ [])
+    ∷ (0 ∷ 0x11 ∷ 1 ∷ 2 ∷ 3 ∷ 4 ∷ 6 ∷ 6 ∷ 18 ∷ 7 ∷ 0 ∷ 3 ∷ 0 ∷ 9 ∷ 0 ∷ 1 ∷ 0 ∷ 5 ∷ 12 ∷ 0xFF ∷ 0x5A ∷ 0x11 ∷ 0x22 ∷ 0x33 ∷ 0x44 ∷ [])
+    ∷ (0 ∷ 0 ∷ 2 ∷ 2 ∷ 3 ∷ 4 ∷ 5 ∷ 6 ∷ 18 ∷ 7 ∷ 0 ∷ 3 ∷ 0 ∷ 9 ∷ 0 ∷ 1 ∷ 0 ∷ 5 ∷ 12 ∷ 0xFF ∷ 0x5A ∷ 14 ∷ 15 ∷ 16 ∷ 17 ∷ [])
+    ∷ (0 ∷ 0 ∷ 0 ∷ 0 ∷ 0 ∷ 0 ∷ 0 ∷ 0 ∷ 0 ∷ 0 ∷ 0 ∷ 0 ∷ 0 ∷ 0 ∷ 0 ∷ 0 ∷ 0 ∷ 0 ∷ 0 ∷ 0 ∷ 0x5A ∷ 0 ∷ 0 ∷ 0 ∷ 0 ∷ [])
     ∷ []
 
 pub controller-rules : controllerRows ≡ controllerSaid
-unfolding controllerRows controllerSaid asItWas gcAt gcLeft portLeft gcSays cpuSays seqAt graphicsHosted cpuHosted isSet computed
+unfolding controllerRows controllerSaid leftWith gcAt gcLeft portLeft gcSays cpuSays seqAt graphicsHosted cpuHosted isSet computed
 controller-rules = refl

@@ -63,7 +63,7 @@ module _ (v : Value) where
   unfolding cpuHosted
   cpu-stays g s m c e =
       let o : Outcome Device = cpuStep (controllerOf g) (sequencerOf s) m c in
-      rw (← e) (left-either (λ (d : Held). true ≡ knownGc (d .gc)) (o .answer .number) (heldOf (g .spare) (o .next)) (held g m) (controller-known (g .spare) (o .next .gc)) (known-gc g s e))
+      rw (← e) (controller-known (g .spare) (o .next .gc))
 
   kept-known : (c : SequencerCall) (s t : SequencerRecord) → true ≡ knownSeq s → true ≡ knownSeq t → true ≡ knownSeq (sequencerKept c s t)
   kept-known seqReset s t p q = q
@@ -143,10 +143,10 @@ module _ (v : Value) where
   deviceOf d = device (controllerOf (d .gc)) (d .memory)
 
   cpu-meant-next : (g : ControllerRecord) (s : SequencerRecord) (m : Memory) (c : CpuCall) → true ≡ knownBoth g s → lifted deviceOf (cpuHosted g s m v c) ≡ cpuStep (controllerOf g) (sequencerOf s) m c
-  unfolding cpuHosted cpuStep
+  unfolding cpuHosted
   cpu-meant-next g s m c e =
-      rw (← e) (left-meant (heldOf (g .spare)) deviceOf (λ (d : Device). ap (λ (q : GraphicsController). device q (d .memory)) (controller-meant (g .spare) (d .gc)))
-      (cpuPlan (controllerOf g .registers) (sequencerOf s) (shape m) c .ask .number) _ _ (device (controllerOf g) m) (held g m) refl)
+      let o : Outcome Device = cpuStep (controllerOf g) (sequencerOf s) m c in
+      rw (← e) (ap (λ (q : GraphicsController). outcome (o .answer) (device q (o .next .memory))) (controller-meant (g .spare) (o .next .gc)))
 
   direct-meant-next : (s : SequencerRecord) (m : Memory) (c : DirectCall) → true ≡ knownSeq s → directHosted s m v c ≡ directStep (sequencerOf s) m c
   unfolding directHosted directStep perform

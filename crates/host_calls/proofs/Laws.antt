@@ -12,7 +12,7 @@ use Rattle.machine.specs.Graphics.{gcOf, writeMode}
 use Rattle.machine.specs.Address.{offset}
 use Rattle.machine.specs.Deeds.{latchesAfter, memoryAfter, valueOf, perform}
 use Rattle.machine.specs.Calls.{SequencerCall, DirectCall, GraphicsCall, CpuCall, directPlan, gcNumberOf, cpuWrite, CpuPlan, cpuPlan, writeDeed}
-use Rattle.machine.specs.Step.{Device, device, lifted, cpuAfter, cpuPerform, sequencerStep, directStep, graphicsStep, cpuStep}
+use Rattle.machine.specs.Step.{Device, device, lifted, cpuAfter, cpuRefused, cpuPerform, sequencerStep, directStep, graphicsStep, cpuStep}
 use Rattle.answers.specs.declared.wide.Shown.{Shown}
 use Rattle.answers.specs.Wide.{shownOf}
 use Rattle.host_records.specs.declared.record.StatsRecord.{StatsRecord}
@@ -100,17 +100,11 @@ module _ (g : ControllerRecord) (s : SequencerRecord) (m : Memory) (v : Value) (
   unfolding cpuHosted
   cpu-unknown e a h f k = rw (← e, f, k)
 
-  cpu-left : true ≡ knownBoth g s → lifted (heldOf (g .spare)) (cpuStep (controllerOf g) (sequencerOf s) m c) ≡ leftTo (heldOf (g .spare)) (cpuStep (controllerOf g) (sequencerOf s) m c) (held g m)
-  unfolding cpuStep
-  cpu-left e =
-      let number = cpuPlan (controllerOf g .registers) (sequencerOf s) (shape m) c .ask .number in
-      sym (left-lifted (heldOf (g .spare)) number _ _ (device (controllerOf g) m) (held g m) (ap (λ (h : ControllerRecord). held h m) (record-back g (known-gc g s e))))
-
   pub cpu-known : true ≡ knownBoth g s → (g′ : GraphicsController) (s′ : Sequencer) → g′ ≡ controllerOf g → s′ ≡ sequencerOf s
       → (a b : Said) (n : GraphicsController) (h : ControllerRecord) (m′ : Memory) → b ≡ a → h ≡ controllerRecordOf (g .spare) n
       → outcome a (device n m′) ≡ cpuStep g′ s′ m c → outcome b (held h m′) ≡ cpuHosted g s m v c
   unfolding cpuHosted
-  cpu-known e g′ s′ i j a b n h m′ f k p = rw (← e, f, k) (ap (lifted (heldOf (g .spare))) (p ∙ ap₂ (λ (q : GraphicsController) (t : Sequencer). cpuStep q t m c) i j) ∙ cpu-left e)
+  cpu-known e g′ s′ i j a b n h m′ f k p = rw (← e, f, k) (ap (lifted (heldOf (g .spare))) (p ∙ ap₂ (λ (q : GraphicsController) (t : Sequencer). cpuStep q t m c) i j))
 
   pub cpu-asked : true ≡ knownBoth g s → (g′ : GraphicsController) (s′ : Sequencer) → g′ ≡ controllerOf g → s′ ≡ sequencerOf s → (a b : Said) → b ≡ a
       → outcome a (device g′ m) ≡ cpuStep g′ s′ m c → outcome b (held g m) ≡ cpuHosted g s m v c
@@ -136,7 +130,7 @@ kept-either g (suc n) v new old p q = q
 
 plan-kept : (a : CpuPlan) (g : GraphicsController) (m : Memory) → latchesAfter (a .ask .deed) (g .latches) m ≡ g .latches → Kept g (cpuPerform a g m .next .gc)
 plan-kept a g m e =
-    kept-either g (a .ask .number) (valueOf (a .ask .reply) (latchesAfter (a .ask .deed) (g .latches) m) (memoryAfter (a .ask .deed) (g .latches) m)) (cpuAfter a g m) (device g m) (rw e) refl
+    kept-either g (a .ask .number) (valueOf (a .ask .reply) (latchesAfter (a .ask .deed) (g .latches) m) (memoryAfter (a .ask .deed) (g .latches) m)) (cpuAfter a g m) (cpuRefused a g m) (rw e) refl
 
 write-kept : (g : GraphicsController) (s : Sequencer) (m : Memory) (x : ℕ) (page : Bool) (y : ℕ) → Kept g (cpuStep g s m (cpuWrite x page y) .next .gc)
 unfolding cpuStep cpuPlan

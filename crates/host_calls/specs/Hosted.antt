@@ -1,5 +1,6 @@
 -- The machine's calls on a host's records: refusal 6 where a selected register is no register's number, else the machine's own answer.
--- A refused call, by whichever number, leaves what the host handed in; an accepted one what the machine leaves.
+-- An accepted call leaves what the machine leaves, a refused one what the host handed in; a read or a write of the processor refused with 2 or 3 leaves it with the
+-- machine's counter of these (K8).
 use Prim.Native.Nat.{ℕ}
 use mathlib.Core.Bool.{Bool, true, false}
 use mathlib.Core.List.{List, [], _∷_}
@@ -25,26 +26,26 @@ held g m = record { gc = g; memory = m }
 abbrev pub heldOf : ℕ → Device → Held
 heldOf x d = held (controllerRecordOf x (d .gc)) (d .memory)
 
--- known numbers: the machine's outcome, as a host is left with it; else refusal 6, the blank value, and all as handed in
-abbrev pub hosted : {S T : Type 0} → Bool → (S → T) → Outcome S → Value → T → Outcome T
-hosted true f o blank old = leftTo f o old
-hosted false f o blank old = outcome (said 6 blank) old
+-- known numbers: the outcome that a host is left with; else refusal 6, the blank value, and all as handed in
+abbrev pub hosted : {T : Type 0} → Bool → Outcome T → Value → T → Outcome T
+hosted true o blank old = o
+hosted false o blank old = outcome (said 6 blank) old
 
 -- calls on the sequencer's record
 unfoldable pub sequencerHosted : SequencerRecord → Value → SequencerCall → Outcome SequencerRecord
-sequencerHosted s blank c = hosted (knownSeq s) sequencerRecordOf (sequencerStep (sequencerOf s) c) blank s
+sequencerHosted s blank c = hosted (knownSeq s) (leftTo sequencerRecordOf (sequencerStep (sequencerOf s) c) s) blank s
 
 -- calls on the sequencer's record and memory
 unfoldable pub directHosted : SequencerRecord → Memory → Value → DirectCall → Outcome Memory
-directHosted s m blank c = hosted (knownSeq s) (λ m. m) (directStep (sequencerOf s) m c) blank m
+directHosted s m blank c = hosted (knownSeq s) (leftTo (λ m. m) (directStep (sequencerOf s) m c) m) blank m
 
 -- calls on the controller's record
 unfoldable pub graphicsHosted : ControllerRecord → Value → GraphicsCall → Outcome ControllerRecord
-graphicsHosted g blank c = hosted (knownGc g) (controllerRecordOf (g .spare)) (graphicsStep (controllerOf g) c) blank g
+graphicsHosted g blank c = hosted (knownGc g) (leftTo (controllerRecordOf (g .spare)) (graphicsStep (controllerOf g) c) g) blank g
 
--- calls on both records and memory
+-- calls on both records and memory: the machine's outcome, refused or not, since a refusal may have counted
 unfoldable pub cpuHosted : ControllerRecord → SequencerRecord → Memory → Value → CpuCall → Outcome Held
-cpuHosted g s m blank c = hosted (knownBoth g s) (heldOf (g .spare)) (cpuStep (controllerOf g) (sequencerOf s) m c) blank (held g m)
+cpuHosted g s m blank c = hosted (knownBoth g s) (lifted (heldOf (g .spare)) (cpuStep (controllerOf g) (sequencerOf s) m c)) blank (held g m)
 
 -- ---- a host that keeps both records and the memory, call after call
 

@@ -44,6 +44,7 @@ statsOf c = record {
   «mode_3_writes» = c .«mode_3_writes»;
   «mode_0_reads» = c .«mode_0_reads»;
   «mode_1_reads» = c .«mode_1_reads»;
+  «refused_accesses» = c .«refused_accesses»;
 }
 
 -- the counters as a host keeps them
@@ -55,6 +56,7 @@ statsRecordOf c = record {
   «mode_3_writes» = c .«mode_3_writes»;
   «mode_0_reads» = c .«mode_0_reads»;
   «mode_1_reads» = c .«mode_1_reads»;
+  «refused_accesses» = c .«refused_accesses»;
 }
 
 -- the controller that a host's record of known number means

@@ -16,6 +16,7 @@ pub struct StatsRecord {
     pub mode_3_writes: u32,
     pub mode_0_reads: u32,
     pub mode_1_reads: u32,
+    pub refused_accesses: u32,
 }
 
 #[repr(C)]
@@ -81,16 +82,17 @@ pub fn is_set(flag: u8) -> bool
     flag != 0
 }
 
-fn to_stats(stats: StatsRecord) -> GraphicsControllerStats
-    ensures { λ r. ⌜ r ≡ statsOf stats ⌝ }
+fn to_stats(kept: StatsRecord) -> GraphicsControllerStats
+    ensures { λ r. ⌜ r ≡ statsOf kept ⌝ }
 {
     GraphicsControllerStats {
-        mode_0_writes: stats.mode_0_writes,
-        mode_1_writes: stats.mode_1_writes,
-        mode_2_writes: stats.mode_2_writes,
-        mode_3_writes: stats.mode_3_writes,
-        mode_0_reads: stats.mode_0_reads,
-        mode_1_reads: stats.mode_1_reads,
+        mode_0_writes: kept.mode_0_writes,
+        mode_1_writes: kept.mode_1_writes,
+        mode_2_writes: kept.mode_2_writes,
+        mode_3_writes: kept.mode_3_writes,
+        mode_0_reads: kept.mode_0_reads,
+        mode_1_reads: kept.mode_1_reads,
+        refused_accesses: kept.refused_accesses,
     }
 }
 
@@ -104,6 +106,7 @@ pub fn of_stats(stats: GraphicsControllerStats) -> StatsRecord
         mode_3_writes: stats.mode_3_writes,
         mode_0_reads: stats.mode_0_reads,
         mode_1_reads: stats.mode_1_reads,
+        refused_accesses: stats.refused_accesses,
     }
 }
 

@@ -64,6 +64,7 @@ fn stats(c: GraphicsControllerStats, out: &mut [u8; 512], at: usize) -> usize {
         count(c.mode_3_writes),
         count(c.mode_0_reads),
         count(c.mode_1_reads),
+        count(c.refused_accesses),
     ];
     numbers(out, at, &list)
 }
@@ -86,7 +87,7 @@ fn wide(byte: u8) -> u32 {
     byte as u32
 }
 
-// A digest's line from its answer on, up to the sums: 0 and 31 numbers.
+// A digest's line from its answer on, up to the sums: 0 and 32 numbers.
 fn records(gc: GraphicsController, seq: Sequencer, out: &mut [u8; 512], at: usize) -> usize {
     let kept = gc.registers;
     let held = gc.latches;

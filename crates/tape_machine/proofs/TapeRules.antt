@@ -39,7 +39,7 @@ scene = state (gcOf registersThere countersThere (1 ∷ 2 ∷ 4 ∷ 8 ∷ [])) s
     }
 
     countersThere : GraphicsControllerStats
-    countersThere = record { «mode_0_writes» = 10; «mode_1_writes» = 20; «mode_2_writes» = 30; «mode_3_writes» = 40; «mode_0_reads» = 50; «mode_1_reads» = 60 }
+    countersThere = record { «mode_0_writes» = 10; «mode_1_writes» = 20; «mode_2_writes» = 30; «mode_3_writes» = 40; «mode_0_reads» = 50; «mode_1_reads» = 60; «refused_accesses» = 70 }
 
     sequencerThere : Sequencer
     sequencerThere = record {
@@ -76,7 +76,7 @@ seqNumbers o =
 counterNumbers : TapeRun → List ℕ
 counterNumbers o =
     let c = o .ran .gc .stats in
-    c .«mode_0_writes» ∷ c .«mode_1_writes» ∷ c .«mode_2_writes» ∷ c .«mode_3_writes» ∷ c .«mode_0_reads» ∷ c .«mode_1_reads» ∷ []
+    c .«mode_0_writes» ∷ c .«mode_1_writes» ∷ c .«mode_2_writes» ∷ c .«mode_3_writes» ∷ c .«mode_0_reads» ∷ c .«mode_1_reads» ∷ c .«refused_accesses» ∷ []
 
 planeNumbers : TapeRun → List ℕ
 planeNumbers o = let m = o .memory in m .p0 ++ (m .p1 ++ (m .p2 ++ m .p3))
@@ -118,6 +118,8 @@ operations =
     ∷ played (3 ∷ 4 ∷ 4 ∷ 8 ∷ 5 ∷ 0x83 ∷ 0x80 ∷ 0x28 ∷ 0 ∷ 7 ∷ 0x82 ∷ 0x80 ∷ 0x28 ∷ 1 ∷ [])
     -- another map: reads of B8001 and of A0002
     ∷ played (1 ∷ 6 ∷ 2 ∷ 12 ∷ 5 ∷ 0x81 ∷ 0x80 ∷ 0x2E ∷ 1 ∷ 5 ∷ 0x82 ∷ 0x80 ∷ 0x28 ∷ 0 ∷ [])
+    -- past the planes: a read, a write and a peek of A0005
+    ∷ played (5 ∷ 0x85 ∷ 0x80 ∷ 0x28 ∷ 0 ∷ 6 ∷ 0x85 ∷ 0x80 ∷ 0x28 ∷ 0 ∷ 0xA5 ∷ 1 ∷ 7 ∷ 0x85 ∷ 0x80 ∷ 0x28 ∷ 0 ∷ [])
     -- an operation of 9, a page of 2, a read that is cut, a number that is damaged: each after a record that stays done
     ∷ played (1 ∷ 0x13 ∷ 9 ∷ 0 ∷ [])
     ∷ played (1 ∷ 0x13 ∷ 5 ∷ 0x82 ∷ 0x80 ∷ 0x28 ∷ 2 ∷ 0 ∷ [])
@@ -138,7 +140,7 @@ sceneLatches : List ℕ
 sceneLatches = 1 ∷ 2 ∷ 4 ∷ 8 ∷ []
 
 sceneCounts : List ℕ
-sceneCounts = 10 ∷ 20 ∷ 30 ∷ 40 ∷ 50 ∷ 60 ∷ []
+sceneCounts = 10 ∷ 20 ∷ 30 ∷ 40 ∷ 50 ∷ 60 ∷ 70 ∷ []
 
 sceneBytes : List ℕ
 sceneBytes = 0x10 ∷ 0x11 ∷ 0x12 ∷ 0x13 ∷ 0x20 ∷ 0x21 ∷ 0x22 ∷ 0x23 ∷ 0x40 ∷ 0x41 ∷ 0x42 ∷ 0x43 ∷ 0x80 ∷ 0x81 ∷ 0x82 ∷ 0x83 ∷ []
@@ -155,7 +157,7 @@ pub operationsSaid : List (List (List ℕ))
 unfolding line showLine brokenAfter sceneGc sceneSeq sceneLatches sceneCounts sceneBytes scenePixels
 operationsSaid =
     -- all 0, latches and counters too; Reset selected, divisor 1, character clock 9, no change pending. Memory stays
-    (line 1 0 0 0 ∷ replicate 11 0 ∷ (0 ∷ 0 ∷ 0 ∷ 0 ∷ 0 ∷ 0 ∷ 0 ∷ 0 ∷ 1 ∷ 9 ∷ []) ∷ replicate 4 0 ∷ replicate 6 0 ∷ sceneBytes ∷ scenePixels ∷ [])
+    (line 1 0 0 0 ∷ replicate 11 0 ∷ (0 ∷ 0 ∷ 0 ∷ 0 ∷ 0 ∷ 0 ∷ 0 ∷ 0 ∷ 1 ∷ 9 ∷ []) ∷ replicate 4 0 ∷ replicate 7 0 ∷ sceneBytes ∷ scenePixels ∷ [])
     -- the low four bits of 13; Bit Mask 5A
     ∷ (line 1 1 0 0 ∷ (3 ∷ 3 ∷ 9 ∷ 8 ∷ 3 ∷ 1 ∷ 1 ∷ 4 ∷ 6 ∷ 7 ∷ 0xFF ∷ []) ∷ sceneSeq ∷ sceneLatches ∷ sceneCounts ∷ sceneBytes ∷ scenePixels ∷ [])
     ∷ (line 1 2 0 0 ∷ (8 ∷ 8 ∷ 9 ∷ 8 ∷ 3 ∷ 1 ∷ 1 ∷ 4 ∷ 6 ∷ 7 ∷ 0x5A ∷ []) ∷ sceneSeq ∷ sceneLatches ∷ sceneCounts ∷ sceneBytes ∷ scenePixels ∷ [])
@@ -163,13 +165,13 @@ operationsSaid =
     ∷ (line 1 3 0 0 ∷ sceneGc ∷ (4 ∷ 4 ∷ 3 ∷ 9 ∷ 11 ∷ 5 ∷ 4 ∷ 1 ∷ 2 ∷ 16 ∷ []) ∷ sceneLatches ∷ sceneCounts ∷ sceneBytes ∷ scenePixels ∷ [])
     ∷ (line 1 4 0 0 ∷ sceneGc ∷ (2 ∷ 2 ∷ 3 ∷ 9 ∷ 6 ∷ 5 ∷ 4 ∷ 1 ∷ 2 ∷ 16 ∷ []) ∷ sceneLatches ∷ sceneCounts ∷ sceneBytes ∷ scenePixels ∷ [])
     -- plane 1 at offset 2, then at 3: bit 0 becomes the page bit. The latches are loaded there, and the read is counted
-    ∷ (line 1 5 0 0x22 ∷ sceneGc ∷ sceneSeq ∷ (0x12 ∷ 0x22 ∷ 0x42 ∷ 0x82 ∷ []) ∷ (10 ∷ 20 ∷ 30 ∷ 40 ∷ 51 ∷ 60 ∷ []) ∷ sceneBytes ∷ scenePixels ∷ [])
-    ∷ (line 1 5 0 0x23 ∷ sceneGc ∷ sceneSeq ∷ (0x13 ∷ 0x23 ∷ 0x43 ∷ 0x83 ∷ []) ∷ (10 ∷ 20 ∷ 30 ∷ 40 ∷ 51 ∷ 60 ∷ []) ∷ sceneBytes ∷ scenePixels ∷ [])
+    ∷ (line 1 5 0 0x22 ∷ sceneGc ∷ sceneSeq ∷ (0x12 ∷ 0x22 ∷ 0x42 ∷ 0x82 ∷ []) ∷ (10 ∷ 20 ∷ 30 ∷ 40 ∷ 51 ∷ 60 ∷ 70 ∷ []) ∷ sceneBytes ∷ scenePixels ∷ [])
+    ∷ (line 1 5 0 0x23 ∷ sceneGc ∷ sceneSeq ∷ (0x13 ∷ 0x23 ∷ 0x43 ∷ 0x83 ∷ []) ∷ (10 ∷ 20 ∷ 30 ∷ 40 ∷ 51 ∷ 60 ∷ 70 ∷ []) ∷ sceneBytes ∷ scenePixels ∷ [])
     -- A5 turned right by 1 is D2; Set/Reset makes it FF for plane 3; Map Mask B keeps plane 2 out. At offset 2, then at 3
-    ∷ (line 1 6 0 0 ∷ sceneGc ∷ sceneSeq ∷ sceneLatches ∷ (11 ∷ 20 ∷ 30 ∷ 40 ∷ 50 ∷ 60 ∷ [])
+    ∷ (line 1 6 0 0 ∷ sceneGc ∷ sceneSeq ∷ sceneLatches ∷ (11 ∷ 20 ∷ 30 ∷ 40 ∷ 50 ∷ 60 ∷ 70 ∷ [])
     ∷ (0x10 ∷ 0x11 ∷ 0xD2 ∷ 0x13 ∷ 0x20 ∷ 0x21 ∷ 0xD2 ∷ 0x23 ∷ 0x40 ∷ 0x41 ∷ 0x42 ∷ 0x43 ∷ 0x80 ∷ 0x81 ∷ 0xFF ∷ 0x83 ∷ [])
     ∷ (replicate 8 1 ++ (replicate 8 2 ++ ((11 ∷ 15 ∷ 8 ∷ 11 ∷ 8 ∷ 8 ∷ 15 ∷ 8 ∷ []) ++ replicate 8 4))) ∷ [])
-    ∷ (line 1 6 0 0 ∷ sceneGc ∷ sceneSeq ∷ sceneLatches ∷ (11 ∷ 20 ∷ 30 ∷ 40 ∷ 50 ∷ 60 ∷ [])
+    ∷ (line 1 6 0 0 ∷ sceneGc ∷ sceneSeq ∷ sceneLatches ∷ (11 ∷ 20 ∷ 30 ∷ 40 ∷ 50 ∷ 60 ∷ 70 ∷ [])
     ∷ (0x10 ∷ 0x11 ∷ 0x12 ∷ 0xD2 ∷ 0x20 ∷ 0x21 ∷ 0x22 ∷ 0xD2 ∷ 0x40 ∷ 0x41 ∷ 0x42 ∷ 0x43 ∷ 0x80 ∷ 0x81 ∷ 0x82 ∷ 0xFF ∷ [])
     ∷ (replicate 8 1 ++ (replicate 8 2 ++ (replicate 8 3 ++ (11 ∷ 15 ∷ 8 ∷ 11 ∷ 8 ∷ 8 ∷ 15 ∷ 12 ∷ [])))) ∷ [])
     -- plane 0 whatever the map select; no latch or counter moves
@@ -178,19 +180,21 @@ operationsSaid =
     ∷ ((showLine 1 2 ++ (showLine 2 4 ++ line 3 8 5 0)) ∷ sceneGc ∷ sceneSeq ∷ sceneLatches ∷ sceneCounts ∷ sceneBytes ∷ scenePixels ∷ [])
     -- planes 0, 1 and 3 get 10, 20 and 80 at offset 2
     ∷ ((line 1 5 0 0x20 ++ (line 2 7 0 0x13 ++ (line 3 1 0 0 ++ (line 4 2 0 0 ++ line 5 6 0 0)))) ∷ (5 ∷ 5 ∷ 9 ∷ 8 ∷ 3 ∷ 1 ∷ 1 ∷ 1 ∷ 6 ∷ 7 ∷ 0xFF ∷ []) ∷ sceneSeq
-    ∷ (0x10 ∷ 0x20 ∷ 0x40 ∷ 0x80 ∷ []) ∷ (10 ∷ 21 ∷ 30 ∷ 40 ∷ 51 ∷ 60 ∷ [])
+    ∷ (0x10 ∷ 0x20 ∷ 0x40 ∷ 0x80 ∷ []) ∷ (10 ∷ 21 ∷ 30 ∷ 40 ∷ 51 ∷ 60 ∷ 70 ∷ [])
     ∷ (0x10 ∷ 0x11 ∷ 0x10 ∷ 0x13 ∷ 0x20 ∷ 0x21 ∷ 0x20 ∷ 0x23 ∷ 0x40 ∷ 0x41 ∷ 0x42 ∷ 0x43 ∷ 0x80 ∷ 0x81 ∷ 0x80 ∷ 0x83 ∷ [])
     ∷ (replicate 8 1 ++ (replicate 8 2 ++ ((8 ∷ 4 ∷ 2 ∷ 1 ∷ 0 ∷ 0 ∷ 4 ∷ 0 ∷ []) ++ replicate 8 4))) ∷ [])
     -- the mask is D2; Set/Reset 9 gives planes 0 and 3 FF there, though Enable has plane 3 alone, and plane 1 00; the latches' other bits are kept. At offset 2
-    ∷ ((line 1 1 0 0 ++ (line 2 2 0 0 ++ line 3 6 0 0)) ∷ (5 ∷ 5 ∷ 9 ∷ 8 ∷ 3 ∷ 1 ∷ 1 ∷ 3 ∷ 6 ∷ 7 ∷ 0xFF ∷ []) ∷ sceneSeq ∷ sceneLatches ∷ (10 ∷ 20 ∷ 30 ∷ 41 ∷ 50 ∷ 60 ∷ [])
+    ∷ ((line 1 1 0 0 ++ (line 2 2 0 0 ++ line 3 6 0 0)) ∷ (5 ∷ 5 ∷ 9 ∷ 8 ∷ 3 ∷ 1 ∷ 1 ∷ 3 ∷ 6 ∷ 7 ∷ 0xFF ∷ []) ∷ sceneSeq ∷ sceneLatches ∷ (10 ∷ 20 ∷ 30 ∷ 41 ∷ 50 ∷ 60 ∷ 70 ∷ [])
     ∷ (0x10 ∷ 0x11 ∷ 0xD3 ∷ 0x13 ∷ 0x20 ∷ 0x21 ∷ 0 ∷ 0x23 ∷ 0x40 ∷ 0x41 ∷ 0x42 ∷ 0x43 ∷ 0x80 ∷ 0x81 ∷ 0xDA ∷ 0x83 ∷ [])
     ∷ (replicate 8 1 ++ (replicate 8 2 ++ ((9 ∷ 13 ∷ 0 ∷ 9 ∷ 8 ∷ 0 ∷ 13 ∷ 1 ∷ []) ++ replicate 8 4))) ∷ [])
     -- offsets 2 and 3: planes 2 and 3 at offset 0, where all latches are loaded; the peek moves none and counts nothing
     ∷ ((line 1 3 0 0 ++ (line 2 4 0 0 ++ (line 3 5 0 0x40 ++ line 4 7 0 0x80))) ∷ sceneGc ∷ (4 ∷ 4 ∷ 3 ∷ 9 ∷ 11 ∷ 5 ∷ 8 ∷ 1 ∷ 2 ∷ 16 ∷ []) ∷ (0x10 ∷ 0x20 ∷ 0x40 ∷ 0x80 ∷ [])
-    ∷ (10 ∷ 20 ∷ 30 ∷ 40 ∷ 51 ∷ 60 ∷ []) ∷ sceneBytes ∷ scenePixels ∷ [])
-    -- B8000: minus B8000; A0002 is outside its window
+    ∷ (10 ∷ 20 ∷ 30 ∷ 40 ∷ 51 ∷ 60 ∷ 70 ∷ []) ∷ sceneBytes ∷ scenePixels ∷ [])
+    -- B8000: minus B8000; A0002 is outside its window, and the read of it is counted as turned away
     ∷ ((line 1 1 0 0 ++ (line 2 2 0 0 ++ (line 3 5 0 0x21 ++ line 4 5 2 0))) ∷ (6 ∷ 6 ∷ 9 ∷ 8 ∷ 3 ∷ 1 ∷ 1 ∷ 4 ∷ 12 ∷ 7 ∷ 0xFF ∷ []) ∷ sceneSeq
-    ∷ (0x11 ∷ 0x21 ∷ 0x41 ∷ 0x81 ∷ []) ∷ (10 ∷ 20 ∷ 30 ∷ 40 ∷ 51 ∷ 60 ∷ []) ∷ sceneBytes ∷ scenePixels ∷ [])
+    ∷ (0x11 ∷ 0x21 ∷ 0x41 ∷ 0x81 ∷ []) ∷ (10 ∷ 20 ∷ 30 ∷ 40 ∷ 51 ∷ 60 ∷ 71 ∷ []) ∷ sceneBytes ∷ scenePixels ∷ [])
+    -- offset 4 is n: the read and the write are counted as turned away, the peek is not
+    ∷ ((line 1 5 3 0 ++ (line 2 6 3 0 ++ line 3 7 3 0)) ∷ sceneGc ∷ sceneSeq ∷ sceneLatches ∷ (10 ∷ 20 ∷ 30 ∷ 40 ∷ 50 ∷ 60 ∷ 72 ∷ []) ∷ sceneBytes ∷ scenePixels ∷ [])
     -- 8 and 7 undo no record before them
     ∷ brokenAfter (line 2 9 8 0)
     ∷ brokenAfter (line 2 5 8 0)
