@@ -43,6 +43,7 @@ int main(void) {
     printf("A0000: %d, 9FFFF: %d, pixels:", here, below);
     for (int i = 0; i < 8; i++) printf(" %d", s.pixels[i]);
     iddesmar_answer read = iddesmar_gc_cpu_read_u8(&gc, seq, IDDESMAR_ALL(&vram), 0xA0000, 0);
-    printf(", read: %02X, latches: %02X %02X %02X %02X\n", read.value, gc.latches[0], gc.latches[1], gc.latches[2], gc.latches[3]);
+    printf(", read: %02X, latches: %02X %02X %02X %02X", read.value, gc.latches[0], gc.latches[1], gc.latches[2], gc.latches[3]);
+    printf(", turned away: %u\n", (unsigned)gc.stats.refused_accesses);
     return 0;
 }

@@ -87,7 +87,7 @@ pub record Outcome (S : Type 0) : Type 0 where
 abbrev pub outcome : {S : Type 0} → Said → S → Outcome S
 outcome a s = record { answer = a; next = s }
 
--- number 0 has its value and what follows; a refusal leaves state and memory as handed in
+-- number 0 has its value and what follows; a refusal leaves state and memory as handed in (of the processor's calls with one count: `cpuRefused`)
 abbrev pub answered : {S : Type 0} → ℕ → Value → S → S → Outcome S
 answered zero v new old = outcome (said 0 v) new
 answered (suc n) v new old = outcome (said (suc n) (blank v)) old
