@@ -129,7 +129,7 @@ document-rules = refl
 pub access-rules : accesses ++ chainFourReads ≡ accessesSaid ++ chainFourSaid
 access-rules = ap₂ (λ (rows more : List (List ℕ)). rows ++ more) document-rules chain-four-rules
 
--- ---- refused accesses, two by 2 and one by 3: what a refusal leaves as it was. TurnedAway has what it counts
+-- ---- refused accesses, two by 2 and one by 3: what a refusal leaves as it was. AccessCounts has what it counts
 
 pub refusedAccesses : List (List ℕ)
 unfolding says tops painted counters accessed shading shaded each gcTo

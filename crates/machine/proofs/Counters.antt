@@ -3,7 +3,7 @@
 use Prim.Native.Nat.{ℕ, zero, suc, _+_, _%_, _^_}
 use native.Mathlib.Omega.{arith}
 use mathlib.Core.Path.{_≡_, refl, ap, _∙_}
-use mathlib.Core.Bool.{Bool, true, false, _||_, not}
+use mathlib.Core.Bool.{Bool, true, false}
 use mathlib.Core.List.{List, [], _∷_}
 use lib.Dec.{eqb, ltb, eqb·suc-zero}
 use Rattle.bits.specs.Bit.{pick}
@@ -23,10 +23,13 @@ use Rattle.machine.specs.Graphics.{readMode, writeMode, memoryMap}
 use Rattle.machine.specs.Address.{inWindow, offset}
 use Rattle.machine.specs.Calls.{GraphicsCall, gcReset, gcChain, gcChain4, gcMemoryMap, gcOddEven, gcShiftMode, gcReadAddress, gcReadData, gcWriteAddress}
 use Rattle.machine.specs.Calls.{gcWriteData, gcMapAddress, gcNumberOf, gcValue, gcNext, refuse, fitsBoth, accessNumber, showNumber}
-use Rattle.machine.specs.Calls.{CpuCall, cpuRead, cpuPeek, cpuWrite, serialize, writeCounter, readCounter, refusedCounter, noCounter, refusalCounter, counted, cpuPlan}
+use Rattle.machine.specs.Calls.{CpuCall, cpuRead, cpuPeek, cpuWrite, serialize, writeCounter, readCounter, refusedCounter, noCounter, isCounted, refusalCounter, counted, cpuPlan}
 use Rattle.machine.specs.Step.{graphicsStep, cpuStep, Device, State, Call, vram, sequencer, direct, graphics, cpu, step, run}
-use Rattle.machine.specs.Claims.{turnsAway, total, sevenTotal, accesses, sinceReset, countsWhere, tallyWhere, tally, sevenTally}
+use Rattle.machine.specs.Claims.{turnsAway, total, sevenTotal, accesses, sinceReset, countsWhere, tallyWhere, inSix, inSeven, tally, sevenTally}
 use Rattle.machine.proofs.Laws.{answered-number, none-raised}
+use Rattle.machine.proofs.Computed.{computed}
+use Rattle.machine.proofs.Worked.{gcTo}
+use Rattle.machine.proofs.AccessCounts.{odd, mixed}
 
 -- ---- any sum of counters that each access moves as it counts
 
@@ -132,9 +135,9 @@ module _ (c : GraphicsControllerStats) where
     -- a refused one raises the seventh alone, where it is turned away
     refused-moved : (n : ℕ) (a : CpuCall) → Moved 0 (pick (turnsAway a n) 1 0) (counted (refusalCounter n (cpuPlan r s h a .turnedAway)) c) c
     unfolding cpuPlan
-    refused-moved n (cpuRead x page) = turned (eqb n 2 || eqb n 3)
+    refused-moved n (cpuRead x page) = turned (isCounted n)
     refused-moved n (cpuPeek x page) = rw (none-raised n) unmoved
-    refused-moved n (cpuWrite x page v) = turned (eqb n 2 || eqb n 3)
+    refused-moved n (cpuWrite x page v) = turned (isCounted n)
     refused-moved n (serialize o) = rw (none-raised n) unmoved
 
 answered-moved : (n i j : ℕ) (v : Value) (new old : Device) (c : GraphicsControllerStats) → Moved i 0 (new .gc .stats) c → Moved 0 j (old .gc .stats) c
@@ -158,7 +161,7 @@ module _ (s : State) (c : CpuCall) where
   number-is = answered-number numberOf _ _ _
 
 -- the six: an accepted access, and no other
-six-counts : Counts total (λ n. eqb n 0)
+six-counts : Counts total inSix
 six-counts s c = rw (← number-is s c) (cpu-moved s c .six)
 
 -- an access is answered 6, 1, 2, 3 or 0
@@ -176,11 +179,11 @@ module _ (P : ℕ → Type 0) (p6 : P 6) (p1 : P 1) (p2 : P 2) (p3 : P 3) (p0 : 
 
 -- accepted or turned away, or answered 6 or 1
 abbrev Once : CpuCall → ℕ → Type 0
-Once c n = pick (eqb n 0) (accesses c) 0 + pick (eqb n 0) 0 (pick (turnsAway c n) 1 0) ≡ pick (not (eqb n 6 || eqb n 1)) (accesses c) 0
+Once c n = pick (eqb n 0) (accesses c) 0 + pick (eqb n 0) 0 (pick (turnsAway c n) 1 0) ≡ pick (inSeven n) (accesses c) 0
 
 -- of a call that is no access
-never-counted : (n : ℕ) → pick (eqb n 0) 0 0 + pick (eqb n 0) 0 0 ≡ pick (not (eqb n 6 || eqb n 1)) 0 0
-never-counted n = go (eqb n 0) (not (eqb n 6 || eqb n 1))
+never-counted : (n : ℕ) → pick (eqb n 0) 0 0 + pick (eqb n 0) 0 0 ≡ pick (inSeven n) 0 0
+never-counted n = go (eqb n 0) (inSeven n)
   where
     go : (t u : Bool) → pick t 0 0 + pick t 0 0 ≡ pick u 0 0
     go true true = refl
@@ -196,7 +199,7 @@ counted-once r s h (cpuWrite x page v) = by-number (Once (cpuWrite x page v)) re
 counted-once r s h (serialize o) = never-counted (showNumber r s h o)
 
 -- the seven: every access, apart from those answered 6 or 1
-seven-counts : Counts sevenTotal (λ n. not (eqb n 6 || eqb n 1))
+seven-counts : Counts sevenTotal inSeven
 seven-counts s c =
     let m = cpu-moved s c in
     rw (← number-is s c, ← counted-once (s .gc .registers) (s .seq) (shape (s .memory)) c) omega (arith, m .six, m .seventh)
@@ -205,8 +208,18 @@ seven-counts s c =
 
 pub counters-sum : (s : State) (cs : List Call)
     → total (run (step s (graphics gcReset) .next) cs .final .gc .stats) % 2 ^ 32 ≡ tally 0 (step s (graphics gcReset) .next) cs % 2 ^ 32
-counters-sum = since-reset total _ six-counts refl
+counters-sum = since-reset total inSix six-counts refl
 
 pub seven-counters-sum : (s : State) (cs : List Call)
     → sevenTotal (run (step s (graphics gcReset) .next) cs .final .gc .stats) % 2 ^ 32 ≡ sevenTally 0 (step s (graphics gcReset) .next) cs % 2 ^ 32
-seven-counters-sum = since-reset sevenTotal _ seven-counts refl
+seven-counters-sum = since-reset sevenTotal inSeven seven-counts refl
+
+-- ---- both on the run of AccessCounts: they ask nothing of state and calls
+
+mixed-six : total (run (step odd (graphics gcReset) .next) mixed .final .gc .stats) % 2 ^ 32 ≡ 3
+unfolding odd mixed gcTo computed tallyWhere countsWhere
+mixed-six = counters-sum odd mixed
+
+mixed-seven : sevenTotal (run (step odd (graphics gcReset) .next) mixed .final .gc .stats) % 2 ^ 32 ≡ 5
+unfolding odd mixed gcTo computed tallyWhere countsWhere
+mixed-seven = seven-counters-sum odd mixed

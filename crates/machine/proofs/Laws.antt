@@ -2,7 +2,7 @@
 use Prim.Native.Nat.{ℕ, zero, suc, _*_, _≤_, _<_}
 use native.Mathlib.Omega.{arith}
 use mathlib.Core.Path.{_≡_, refl}
-use mathlib.Core.Bool.{Bool, true, false, _&&_, _||_}
+use mathlib.Core.Bool.{Bool, true, false, _&&_}
 use mathlib.Core.List.{[]}
 use lib.Dec.{eqb, ltb}
 use borrow.Author.Tests.{ltb-true, leb-true, eqb-true}
@@ -17,7 +17,7 @@ use Rattle.machine.specs.Answers.{refusalNumber, Value, blank, said, out
 use Rattle.machine.specs.Graphics.{memoryMap}
 use Rattle.machine.specs.Address.{inWindow, offset}
 use Rattle.machine.specs.Deeds.{Plan, perform, memoryAfter, valueOf, laid, remade, stored}
-use Rattle.machine.specs.Calls.{refuse, offsetNumber, planeNumber, placeNumber, shownNumber, accessNumber, fitsBoth, noCounter, refusalCounter}
+use Rattle.machine.specs.Calls.{refuse, offsetNumber, planeNumber, placeNumber, shownNumber, accessNumber, fitsBoth, noCounter, isCounted, refusalCounter}
 
 -- ---- an answer by its number
 
@@ -43,7 +43,7 @@ perform-refused a m k v h e f = answered-refused k (a .number) _ v _ m h e f
 
 -- a call that names no counter for its refusals raises none, whatever the number
 pub none-raised : (n : ℕ) → refusalCounter n noCounter ≡ noCounter
-none-raised n = go (eqb n 2 || eqb n 3)
+none-raised n = go (isCounted n)
   where
     go : (t : Bool) → pick t noCounter noCounter ≡ noCounter
     go true = refl

@@ -5,6 +5,7 @@ pub mod NoPrice
 pub mod Computed
 pub mod Worked
 pub mod TwelveCases
+pub mod AccessCounts
 pub mod Refusals
 pub mod Records
 pub mod Counters
@@ -21,5 +22,4 @@ pub mod RegisterRules
 pub mod DirectRules
 pub mod ChainFour
 pub mod AccessRules
-pub mod TurnedAway
 pub mod Window128K

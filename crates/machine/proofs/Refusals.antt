@@ -3,7 +3,7 @@ use Prim.Native.Nat.{ℕ, zero, suc, _<_, _≤_}
 use native.Mathlib.Omega.{arith}
 use mathlib.Core.Logic.{_≢_, _↔_}
 use mathlib.Core.Path.{_≡_, refl, sym, ap, _∙_, subst}
-use mathlib.Core.Bool.{Bool, true, false, _&&_, _||_}
+use mathlib.Core.Bool.{Bool, true, false, _&&_}
 use mathlib.Core.List.{List, [], _∷_, map}
 use lib.ListN.{replicate}
 use lib.Dec.{eqb, ltb, leb}
@@ -28,7 +28,7 @@ use Rattle.machine.specs.Calls.{VramCall, readU8, peekU8, readGlyph, rea
 use Rattle.machine.specs.Calls.{SequencerCall, seqReset, seqClock, seqSetClockChangePending, seqPollClockChange, seqReadAddress, seqReadData, seqWriteAddress, seqWriteData, seqNumberOf}
 use Rattle.machine.specs.Calls.{DirectCall, seqCpuReadU8, seqPeekU8, seqGcReadU8, seqReadLinear, seqSerializeLinear, seqPlaneSet, seqPlaneAnd, seqPlaneOr, directPlan}
 use Rattle.machine.specs.Calls.{GraphicsCall, gcReset, gcChain, gcChain4, gcMemoryMap, gcOddEven, gcShiftMode, gcReadAddress, gcReadData, gcWriteAddress, gcWriteData, gcMapAddress, gcNumberOf}
-use Rattle.machine.specs.Calls.{CpuCall, cpuRead, cpuPeek, cpuWrite, serialize, cpuPlan, refusedCounter, noCounter, refusalCounter, counted}
+use Rattle.machine.specs.Calls.{CpuCall, cpuRead, cpuPeek, cpuWrite, serialize, cpuPlan, refusedCounter, noCounter, isCounted, refusalCounter, counted}
 use Rattle.machine.specs.Step.{vramStep, sequencerStep, directStep, graphicsStep, device, cpuAfter, cpuRefused, cpuStep, State, Call, vram, sequencer, direct, graphics, cpu, lifted}
 use Rattle.machine.specs.Step.{withMemory, withSeq, withGc, withDevice, step}
 use Rattle.machine.specs.Claims.{Check, check, RightGc, RightSeq, InWindow, forBoth, forMemory, forPlane, forWindow, forOffset, forShown, forPlace, vramChecks}
@@ -322,9 +322,9 @@ module _ (g : GraphicsController) (r : GraphicsRegisters) (s : Sequencer) (h : S
 
   controller-left : (c : CpuCall) → gcOf (g .registers) (counted (refusalCounter n (cpuPlan r s h c .turnedAway)) (g .stats)) (g .latches) ≡ pick (turnsAway c n) (oneMoreRefused g) g
   unfolding cpuPlan counted
-  controller-left (cpuRead x page) = turned (eqb n 2 || eqb n 3)
+  controller-left (cpuRead x page) = turned (isCounted n)
   controller-left (cpuPeek x page) = rw (none-raised n)
-  controller-left (cpuWrite x page v) = turned (eqb n 2 || eqb n 3)
+  controller-left (cpuWrite x page v) = turned (isCounted n)
   controller-left (serialize o) = rw (none-raised n)
 
 cpu-stays : (g : GraphicsController) (s : Sequencer) (m : Memory) (c : CpuCall) → cpuStep g s m c .answer .number ≢ 0
@@ -351,3 +351,29 @@ refused-stays s (sequencer c) ne = lifted-stays (withSeq s) _ (s .seq) (sequence
 refused-stays s (direct c) ne = lifted-stays (withMemory s) _ (s .memory) (direct-stays (s .seq) (s .memory) c ne)
 refused-stays s (graphics c) ne = lifted-stays (withGc s) _ (s .gc) (graphics-stays (s .gc) c ne)
 refused-stays s (cpu c) ne = subst (Stays (step s (cpu c))) (with-turned s (turnsAway c (step s (cpu c) .answer .number))) (lifted-stays (withDevice s) _ _ (cpu-stays (s .gc) (s .seq) (s .memory) c ne))
+
+-- ---- what that leaves, spelt out for every state: accesses that are counted, and some that are not
+
+left-by : (s : State) (c : Call) (n : ℕ) → step s c .answer .number ≡ suc n → step s c .next ≡ afterRefusal s c (suc n)
+left-by s c n e = refused-stays s c (λ z. let y : _≡_ {A = ℕ} 0 (suc n) = sym z ∙ e in omega arith) .next ∙ ap (afterRefusal s c) e
+
+module _ (s : State) (x : ℕ) (page : Bool) (v : ℕ) where
+  read-outside : step s (cpu (cpuRead x page)) .answer .number ≡ 2 → step s (cpu (cpuRead x page)) .next ≡ withGc s (oneMoreRefused (s .gc))
+  unfolding afterRefusal
+  read-outside = left-by s (cpu (cpuRead x page)) 1
+
+  write-past : step s (cpu (cpuWrite x page v)) .answer .number ≡ 3 → step s (cpu (cpuWrite x page v)) .next ≡ withGc s (oneMoreRefused (s .gc))
+  unfolding afterRefusal
+  write-past = left-by s (cpu (cpuWrite x page v)) 2
+
+  read-of-bad-records : step s (cpu (cpuRead x page)) .answer .number ≡ 6 → step s (cpu (cpuRead x page)) .next ≡ s
+  unfolding afterRefusal
+  read-of-bad-records = left-by s (cpu (cpuRead x page)) 5
+
+  write-to-bad-memory : step s (cpu (cpuWrite x page v)) .answer .number ≡ 1 → step s (cpu (cpuWrite x page v)) .next ≡ s
+  unfolding afterRefusal
+  write-to-bad-memory = left-by s (cpu (cpuWrite x page v)) 0
+
+  peek-outside : step s (cpu (cpuPeek x page)) .answer .number ≡ 2 → step s (cpu (cpuPeek x page)) .next ≡ s
+  unfolding afterRefusal
+  peek-outside = left-by s (cpu (cpuPeek x page)) 1

@@ -289,9 +289,13 @@ refusedCounter = 6
 abbrev pub noCounter : ℕ
 noCounter = 7
 
--- the counter that a refusal raises, of its number and the one that the plan names: 2 and 3 raise it, 6 and 1 none
+-- K8: the refusals that are counted, by number: 2 and 3, and not 6 or 1
+abbrev pub isCounted : ℕ → Bool
+isCounted n = eqb n 2 || eqb n 3
+
+-- the counter that a refusal raises, of its number and the one that the plan names
 abbrev pub refusalCounter : ℕ → ℕ → ℕ
-refusalCounter n k = pick (eqb n 2 || eqb n 3) k noCounter
+refusalCounter n k = pick (isCounted n) k noCounter
 
 -- raised by 1, back to 0 after 4,294,967,295
 abbrev pub raised : ℕ → ℕ → ℕ → ℕ

@@ -275,13 +275,21 @@ unfoldable pub tallyWhere : (ℕ → Bool) → ℕ → State → List Call → �
 tallyWhere f n s [] = n
 tallyWhere f n s (c ∷ cs) = tallyWhere f (countsWhere f n s c) (step s c .next) cs
 
--- only an accepted access counts
-abbrev pub tally : ℕ → State → List Call → ℕ
-tally = tallyWhere (λ n. eqb n 0)
+-- the six count accepted accesses alone
+abbrev pub inSix : ℕ → Bool
+inSix n = eqb n 0
 
--- K8: every access counts, apart from those answered 6 or 1
+-- K8: the seven count every access, apart from those answered 6 or 1
+abbrev pub inSeven : ℕ → Bool
+inSeven n = not (eqb n 6 || eqb n 1)
+
+-- the accesses that the six count
+abbrev pub tally : ℕ → State → List Call → ℕ
+tally = tallyWhere inSix
+
+-- those that the seven count
 abbrev pub sevenTally : ℕ → State → List Call → ℕ
-sevenTally = tallyWhere (λ n. not (eqb n 6 || eqb n 1))
+sevenTally = tallyWhere inSeven
 
 -- ---- `picture-matches`, `pixels-stay`
 
