@@ -27,7 +27,8 @@ use Rattle.machine.specs.Sequencer.{fitsSeq, chainFour, storedAt, answersFrom}
 use Rattle.machine.specs.Address.{inWindow, a0, mapped, offset}
 use Rattle.machine.specs.DataPath.{mapSelected, selectedPlane, peekedPlane}
 use Rattle.machine.specs.Deeds.{byte, latch, loaded, latchesAfter, memoryAfter, valueOf}
-use Rattle.machine.specs.Calls.{refuse, fitsBoth, accessNumber, shows, showNumber, CpuPlan, noCounter, refusedCounter, refusalCounter, counted, readCounter, writeCounter, readReply, writeDeed, cpuPlan, cpuRead, cpuPeek, cpuWrite, serialize}
+use Rattle.machine.specs.Calls.{refuse, fitsBoth, accessNumber, shows, showNumber, readReply, writeDeed, cpuPlan, cpuRead, cpuPeek, cpuWrite, serialize}
+use Rattle.machine.specs.Calls.{CpuPlan, readCounter, writeCounter, refusedCounter, noCounter, refusalCounter, counted}
 use Rattle.machine.specs.Step.{device, lifted, cpuRefused, cpuPerform, cpuStep}
 use Rattle.machine.proofs.Laws.{both, refuse-0, sound-facts, AtOffset, answered-refused, none-raised}
 use Rattle.refusals_records.proofs.Held.{map-select-fits}

@@ -12,7 +12,7 @@ use Rattle.machine.specs.Memory.{Memory, shape}
 use Rattle.machine.specs.Answers.{Value, Said, Outcome, outcome, answered}
 use Rattle.machine.specs.Deeds.{perform}
 use Rattle.machine.specs.Calls.{SequencerCall, seqReset, seqClock, seqSetClockChangePending, seqPollClockChange, seqReadAddress, seqReadData, seqWriteAddress, seqWriteData}
-use Rattle.machine.specs.Calls.{seqNumberOf, seqValue, seqNext, DirectCall, directPlan, GraphicsCall, gcReset, gcNumberOf, gcValue, gcNext, CpuCall, cpuPlan}
+use Rattle.machine.specs.Calls.{seqNumberOf, seqValue, seqNext, DirectCall, directPlan, GraphicsCall, gcReset, gcNumberOf, gcValue, gcNext, CpuCall}
 use Rattle.machine.specs.Step.{Device, device, lifted, sequencerStep, directStep, graphicsStep, cpuStep}
 use Rattle.machine.specs.Step.{State, state, Call, vram, sequencer, direct, graphics, cpu, withSeq, withGc, withMemory, withDevice, step, run}
 use Rattle.machine.proofs.Records.{never-6}
@@ -20,7 +20,7 @@ use Rattle.host_records.specs.declared.record.ControllerRecord.{ControllerRecor
 use Rattle.host_records.specs.declared.record.SequencerRecord.{SequencerRecord}
 use Rattle.host_records.specs.Records.{knownGc, knownSeq, knownBoth, controllerOf, controllerRecordOf, sequencerOf, sequencerRecordOf, leftBy, leftTo}
 use Rattle.host_records.proofs.Laws.{known-gc, known-seq, controller-known, sequencer-known, controller-meant, sequencer-meant}
-use Rattle.host_calls.specs.Hosted.{Held, held, heldOf, sequencerHosted, directHosted, graphicsHosted, cpuHosted, Host, host, meantBy, sequencerKept, hostStep, hostAnswers}
+use Rattle.host_calls.specs.Hosted.{Held, sequencerHosted, directHosted, graphicsHosted, cpuHosted, Host, host, meantBy, sequencerKept, hostStep, hostAnswers}
 
 -- both are known
 abbrev pub Known : Host → Type 0

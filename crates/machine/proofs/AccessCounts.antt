@@ -8,7 +8,7 @@ use Rattle.machine_types.specs.declared.gc.GraphicsRegister.the-variants.{SetRe
 use Rattle.machine_types.specs.declared.seq.SequencerRegister.the-variants.{Reset}
 use Rattle.machine_types.specs.declared.gc.GraphicsController.{GraphicsController}
 use Rattle.machine_types.specs.declared.seq.Sequencer.{Sequencer}
-use Rattle.machine_types.specs.Start.{freshGc, freshSeq}
+use Rattle.machine_types.specs.Start.{freshSeq}
 use Rattle.machine.specs.Memory.{Memory, mem}
 use Rattle.machine.specs.Answers.{Said}
 use Rattle.machine.specs.Calls.{readU8, readLinear, writeU8, deplane, seqReset, seqCpuReadU8, seqGcReadU8, seqReadLinear, seqPlaneSet, gcReset, gcMapAddress}

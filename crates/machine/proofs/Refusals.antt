@@ -350,7 +350,9 @@ refused-stays s (vram c) ne = lifted-stays (withMemory s) _ (s .memory) (vram-st
 refused-stays s (sequencer c) ne = lifted-stays (withSeq s) _ (s .seq) (sequencer-stays (s .seq) c ne)
 refused-stays s (direct c) ne = lifted-stays (withMemory s) _ (s .memory) (direct-stays (s .seq) (s .memory) c ne)
 refused-stays s (graphics c) ne = lifted-stays (withGc s) _ (s .gc) (graphics-stays (s .gc) c ne)
-refused-stays s (cpu c) ne = subst (Stays (step s (cpu c))) (with-turned s (turnsAway c (step s (cpu c) .answer .number))) (lifted-stays (withDevice s) _ _ (cpu-stays (s .gc) (s .seq) (s .memory) c ne))
+refused-stays s (cpu c) ne =
+    subst (Stays (step s (cpu c))) (with-turned s (turnsAway c (step s (cpu c) .answer .number)))
+    (lifted-stays (withDevice s) _ _ (cpu-stays (s .gc) (s .seq) (s .memory) c ne))
 
 -- ---- what that leaves, spelt out for every state: accesses that are counted, and some that are not
 

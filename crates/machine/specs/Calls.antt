@@ -324,7 +324,8 @@ writeDeed w r s x o v = store (storedAt s o) (λ p. visits r x p && inMask s o (
 
 -- under chain-four latches load, and a peek answers, at the offset with its low two bits clear, as stores go there; a peek moves no latch or counter
 unfoldable pub cpuPlan : GraphicsRegisters → Sequencer → Shape → CpuCall → CpuPlan
-cpuPlan r s h (cpuRead x page) = cpuPlanOf (plan (accessNumber r s h x page) (load (storedAt s (offset r x page))) (readReply (readMode r) r s x (offset r x page))) (readCounter (readMode r)) refusedCounter
+cpuPlan r s h (cpuRead x page) =
+    cpuPlanOf (plan (accessNumber r s h x page) (load (storedAt s (offset r x page))) (readReply (readMode r) r s x (offset r x page))) (readCounter (readMode r)) refusedCounter
 cpuPlan r s h (cpuPeek x page) = cpuPlanOf (plan (accessNumber r s h x page) rest (byteAt (peekedPlane s (offset r x page)) (storedAt s (offset r x page)))) noCounter noCounter
 cpuPlan r s h (cpuWrite x page v) = cpuPlanOf (plan (accessNumber r s h x page) (writeDeed (writeMode r) r s x (offset r x page) v) (known (one 0))) (writeCounter (writeMode r)) refusedCounter
 cpuPlan r s h (serialize o) = cpuPlanOf (plan (showNumber r s h o) rest (pixelsAt (8 * o))) noCounter noCounter

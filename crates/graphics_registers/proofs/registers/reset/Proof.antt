@@ -13,7 +13,8 @@ new-requires c κs = search needs
 returns : tie.Need-returns
 unfolding graphicsStep gcNumberOf gcValue gcNext
 returns c =
-    ap (outcome (said 0 (one 0))) (c .new .ensures)
+    let after-new : tie.After-new = search needs in
+    ap (outcome (said 0 (one 0))) (after-new .new .ensures)
 
 pub reset-spec : {M : Type 1} → statement M
 reset-spec = tie.close (tie.spec new-requires returns)
