@@ -41,12 +41,12 @@ More sum k new old = sum new % 2 ^ 32 ≡ (sum old + k) % 2 ^ 32
 abbrev Counts : (GraphicsControllerStats → ℕ) → (ℕ → Bool) → Type 0
 Counts sum f = (s : State) (c : CpuCall) → More sum (pick (f (step s (cpu c) .answer .number)) (accesses c) 0) (step s (cpu c) .next .gc .stats) (s .gc .stats)
 
-module _ (sum : GraphicsControllerStats → ℕ) (f : ℕ → Bool) (moves : Counts sum f) where
+module _ (sum : GraphicsControllerStats → ℕ) (f : ℕ → Bool) (begun : sum (freshGc .stats) ≡ 0) (moves : Counts sum f) where
   -- the invariant: the counters show n
   abbrev Shows : ℕ → State → Type 0
   Shows n s = sum (s .gc .stats) % 2 ^ 32 ≡ n % 2 ^ 32
 
-  module _ (n : ℕ) (s : State) (h : Shows n s) (begun : sum (freshGc .stats) ≡ 0) where
+  module _ (n : ℕ) (s : State) (h : Shows n s) where
     -- a call on the controller that leaves the counters alone, refused or not
     kept : (k : ℕ) (v : Value) (new : GraphicsController) → new .stats ≡ s .gc .stats → sum (answered k v new (s .gc) .next .stats) % 2 ^ 32 ≡ n % 2 ^ 32
     kept zero v new e = ap (λ (c : GraphicsControllerStats). sum c % 2 ^ 32) e ∙ h
@@ -82,14 +82,14 @@ module _ (sum : GraphicsControllerStats → ℕ) (f : ℕ → Bool) (moves : Cou
     step-shows (graphics c) = graphics-shows c
     step-shows (cpu c) = cpu-shows c
 
-  run-shows : (begun : sum (freshGc .stats) ≡ 0) (cs : List Call) (n : ℕ) (s : State) → Shows n s → Shows (tallyWhere f n s cs) (run s cs .final)
+  run-shows : (cs : List Call) (n : ℕ) (s : State) → Shows n s → Shows (tallyWhere f n s cs) (run s cs .final)
   unfolding tallyWhere run
-  run-shows begun [] n s h = h
-  run-shows begun (c ∷ cs) n s h = run-shows begun cs (countsWhere f n s c) (step s c .next) (step-shows n s h begun c)
+  run-shows [] n s h = h
+  run-shows (c ∷ cs) n s h = run-shows cs (countsWhere f n s c) (step s c .next) (step-shows n s h c)
 
-  since-reset : sum (freshGc .stats) ≡ 0 → (s : State) (cs : List Call)
+  since-reset : (s : State) (cs : List Call)
       → sum (run (step s (graphics gcReset) .next) cs .final .gc .stats) % 2 ^ 32 ≡ tallyWhere f 0 (step s (graphics gcReset) .next) cs % 2 ^ 32
-  since-reset begun s cs = run-shows begun cs 0 (step s (graphics gcReset) .next) shown
+  since-reset s cs = run-shows cs 0 (step s (graphics gcReset) .next) shown
     where
       shown : Shows 0 (step s (graphics gcReset) .next)
       shown = unfold step graphicsStep gcNumberOf gcNext in ap (λ (x : ℕ). x % 2 ^ 32) begun
@@ -208,11 +208,11 @@ seven-counts s c =
 
 pub counters-sum : (s : State) (cs : List Call)
     → total (run (step s (graphics gcReset) .next) cs .final .gc .stats) % 2 ^ 32 ≡ tally 0 (step s (graphics gcReset) .next) cs % 2 ^ 32
-counters-sum = since-reset total inSix six-counts refl
+counters-sum = since-reset total inSix refl six-counts
 
 pub seven-counters-sum : (s : State) (cs : List Call)
     → sevenTotal (run (step s (graphics gcReset) .next) cs .final .gc .stats) % 2 ^ 32 ≡ sevenTally 0 (step s (graphics gcReset) .next) cs % 2 ^ 32
-seven-counters-sum = since-reset sevenTotal inSeven seven-counts refl
+seven-counters-sum = since-reset sevenTotal inSeven refl seven-counts
 
 -- ---- both on the run of AccessCounts: they ask nothing of state and calls
 
