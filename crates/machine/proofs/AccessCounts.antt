@@ -20,7 +20,7 @@ use Rattle.machine.proofs.Worked.{start, gcTo, seqTo, saysFrom, says, e
 
 -- ---- states
 
--- all counters at one number; registers at their start but for Set/Reset
+-- all counters at one number; the 64K window and Set/Reset so, the other registers at their start
 counting : ℕ → ℕ → GraphicsController
 counting n x = record {
   registers = record {
