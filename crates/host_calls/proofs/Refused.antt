@@ -1,7 +1,9 @@
 -- `host-refused`: what a refused access leaves of what a host holds, byte for byte. The record and the memory as handed in; where a read or a write is answered 2 or 3,
 -- one more in the record's last counter.
+use Prim.Native.Nat.{ℕ, suc}
+use native.Mathlib.Omega.{arith}
 use mathlib.Core.Logic.{_≢_}
-use mathlib.Core.Path.{_≡_, refl, ap, _∙_}
+use mathlib.Core.Path.{_≡_, refl, sym, ap, _∙_}
 use mathlib.Core.Bool.{Bool, true, false}
 use Rattle.bits.specs.Bit.{pick}
 use Rattle.machine.specs.Memory.{Memory}
@@ -51,3 +53,29 @@ module _ (g : ControllerRecord) (s : SequencerRecord) (m : Memory) where
       → cpuHosted g s m v c .next ≡ held (pick (turnsAway c (cpuHosted g s m v c .answer .number)) (withOneMoreRefused g) g) m
   unfolding cpuHosted
   host-refused v c = by-known (knownBoth g s) refl v c
+
+  -- ---- spelt out, by the answer's number: what is counted, and what is not
+
+  left-by : (v : Value) (c : CpuCall) (n : ℕ) → cpuHosted g s m v c .answer .number ≡ suc n → cpuHosted g s m v c .next ≡ leftIf (turnsAway c (suc n)) g m
+  left-by v c n e =
+      host-refused v c (λ z. let y : _≡_ {A = ℕ} 0 (suc n) = sym z ∙ e in omega arith)
+      ∙ ap (λ (k : ℕ). leftIf (turnsAway c k) g m) e
+
+  module _ (v : Value) (x : ℕ) (page : Bool) (b : ℕ) where
+    read-outside : cpuHosted g s m v (cpuRead x page) .answer .number ≡ 2 → cpuHosted g s m v (cpuRead x page) .next ≡ held (withOneMoreRefused g) m
+    read-outside = left-by v (cpuRead x page) 1
+
+    write-past : cpuHosted g s m v (cpuWrite x page b) .answer .number ≡ 3 → cpuHosted g s m v (cpuWrite x page b) .next ≡ held (withOneMoreRefused g) m
+    write-past = left-by v (cpuWrite x page b) 2
+
+    read-of-unknown : cpuHosted g s m v (cpuRead x page) .answer .number ≡ 6 → cpuHosted g s m v (cpuRead x page) .next ≡ held g m
+    read-of-unknown = left-by v (cpuRead x page) 5
+
+    write-to-bad-memory : cpuHosted g s m v (cpuWrite x page b) .answer .number ≡ 1 → cpuHosted g s m v (cpuWrite x page b) .next ≡ held g m
+    write-to-bad-memory = left-by v (cpuWrite x page b) 0
+
+    peek-refused : (n : ℕ) → cpuHosted g s m v (cpuPeek x page) .answer .number ≡ suc n → cpuHosted g s m v (cpuPeek x page) .next ≡ held g m
+    peek-refused n = left-by v (cpuPeek x page) n
+
+    show-refused : (n : ℕ) → cpuHosted g s m v (serialize x) .answer .number ≡ suc n → cpuHosted g s m v (serialize x) .next ≡ held g m
+    show-refused n = left-by v (serialize x) n

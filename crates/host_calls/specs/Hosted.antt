@@ -1,7 +1,7 @@
 -- The machine's calls on a host's records: refusal 6 where a selected register is no register's number, else the machine's own answer.
 -- An accepted call leaves what the machine leaves, a refused one what the host handed in; a read or a write of the processor refused with 2 or 3 leaves it with the
 -- machine's counter of these (K8).
-use Prim.Native.Nat.{ℕ, _+_, _%_, _^_}
+use Prim.Native.Nat.{ℕ}
 use mathlib.Core.Bool.{Bool, true, false}
 use mathlib.Core.List.{List, [], _∷_}
 use Rattle.machine.specs.Memory.{Memory}
@@ -9,9 +9,10 @@ use Rattle.machine.specs.Answers.{Value, Said, said, Outcome, outcome}
 use Rattle.machine.specs.Calls.{SequencerCall, seqReset, seqClock, seqSetClockChangePending, seqPollClockChange, seqReadAddress, seqReadData, seqWriteAddress, seqWriteData}
 use Rattle.machine.specs.Calls.{DirectCall, GraphicsCall, CpuCall}
 use Rattle.machine.specs.Step.{Device, vramStep, sequencerStep, directStep, graphicsStep, cpuStep, State, state, Call, vram, sequencer, direct, graphics, cpu, lifted}
+use Rattle.machine.specs.Claims.{oneMoreRefused}
 use Rattle.host_records.specs.declared.record.ControllerRecord.{ControllerRecord}
 use Rattle.host_records.specs.declared.record.SequencerRecord.{SequencerRecord}
-use Rattle.host_records.specs.Records.{knownGc, knownSeq, knownBoth, controllerOf, controllerRecordOf, sequencerOf, sequencerRecordOf, withStats, leftTo}
+use Rattle.host_records.specs.Records.{knownGc, knownSeq, knownBoth, controllerOf, controllerRecordOf, sequencerOf, sequencerRecordOf, statsRecordOf, withStats, leftTo}
 
 -- the controller's record as a host keeps it, and the memory
 pub record Held : Type 0 where
@@ -26,19 +27,9 @@ held g m = record { gc = g; memory = m }
 abbrev pub heldOf : ℕ → Device → Held
 heldOf x d = held (controllerRecordOf x (d .gc)) (d .memory)
 
--- a host's record with one more in its last counter, back to 0 after 4,294,967,295, and every other byte as it was: what a read or a write answered 2 or 3 leaves
+-- a host's record with one more access turned away, as the machine counts it, and every other byte as it was: what a read or a write answered 2 or 3 leaves (K8)
 abbrev pub withOneMoreRefused : ControllerRecord → ControllerRecord
-withOneMoreRefused g = withStats
-    (record {
-      «mode_0_writes» = g .stats .«mode_0_writes»;
-      «mode_1_writes» = g .stats .«mode_1_writes»;
-      «mode_2_writes» = g .stats .«mode_2_writes»;
-      «mode_3_writes» = g .stats .«mode_3_writes»;
-      «mode_0_reads» = g .stats .«mode_0_reads»;
-      «mode_1_reads» = g .stats .«mode_1_reads»;
-      «refused_accesses» = (g .stats .«refused_accesses» + 1) % 2 ^ 32;
-    })
-    g
+withOneMoreRefused g = withStats (statsRecordOf (oneMoreRefused (controllerOf g) .stats)) g
 
 -- known numbers: the outcome that a host is left with; else refusal 6, the blank value, and all as handed in
 abbrev pub hosted : {T : Type 0} → Bool → Outcome T → Value → T → Outcome T

@@ -354,11 +354,38 @@ refused-stays s (cpu c) ne =
     subst (Stays (step s (cpu c))) (with-turned s (turnsAway c (step s (cpu c) .answer .number)))
     (lifted-stays (withDevice s) _ _ (cpu-stays (s .gc) (s .seq) (s .memory) c ne))
 
--- ---- what that leaves, spelt out for every state: accesses that are counted, and some that are not
+-- ---- what that leaves, spelt out for every state and kind of call
 
 left-by : (s : State) (c : Call) (n : ℕ) → step s c .answer .number ≡ suc n → step s c .next ≡ afterRefusal s c (suc n)
 left-by s c n e = refused-stays s c (λ z. let y : _≡_ {A = ℕ} 0 (suc n) = sym z ∙ e in omega arith) .next ∙ ap (afterRefusal s c) e
 
+-- whatever the number: the four other layers, a peek and a show
+module _ (s : State) (n : ℕ) where
+  vram-left : (c : VramCall) → step s (vram c) .answer .number ≡ suc n → step s (vram c) .next ≡ s
+  unfolding afterRefusal
+  vram-left c = left-by s (vram c) n
+
+  sequencer-left : (c : SequencerCall) → step s (sequencer c) .answer .number ≡ suc n → step s (sequencer c) .next ≡ s
+  unfolding afterRefusal
+  sequencer-left c = left-by s (sequencer c) n
+
+  direct-left : (c : DirectCall) → step s (direct c) .answer .number ≡ suc n → step s (direct c) .next ≡ s
+  unfolding afterRefusal
+  direct-left c = left-by s (direct c) n
+
+  graphics-left : (c : GraphicsCall) → step s (graphics c) .answer .number ≡ suc n → step s (graphics c) .next ≡ s
+  unfolding afterRefusal
+  graphics-left c = left-by s (graphics c) n
+
+  peek-left : (x : ℕ) (page : Bool) → step s (cpu (cpuPeek x page)) .answer .number ≡ suc n → step s (cpu (cpuPeek x page)) .next ≡ s
+  unfolding afterRefusal
+  peek-left x page = left-by s (cpu (cpuPeek x page)) n
+
+  show-left : (o : ℕ) → step s (cpu (serialize o)) .answer .number ≡ suc n → step s (cpu (serialize o)) .next ≡ s
+  unfolding afterRefusal
+  show-left o = left-by s (cpu (serialize o)) n
+
+-- a read and a write, by the number
 module _ (s : State) (x : ℕ) (page : Bool) (v : ℕ) where
   read-outside : step s (cpu (cpuRead x page)) .answer .number ≡ 2 → step s (cpu (cpuRead x page)) .next ≡ withGc s (oneMoreRefused (s .gc))
   unfolding afterRefusal
@@ -375,7 +402,3 @@ module _ (s : State) (x : ℕ) (page : Bool) (v : ℕ) where
   write-to-bad-memory : step s (cpu (cpuWrite x page v)) .answer .number ≡ 1 → step s (cpu (cpuWrite x page v)) .next ≡ s
   unfolding afterRefusal
   write-to-bad-memory = left-by s (cpu (cpuWrite x page v)) 0
-
-  peek-outside : step s (cpu (cpuPeek x page)) .answer .number ≡ 2 → step s (cpu (cpuPeek x page)) .next ≡ s
-  unfolding afterRefusal
-  peek-outside = left-by s (cpu (cpuPeek x page)) 1
