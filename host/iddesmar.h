@@ -9,7 +9,7 @@
 #ifndef IDDESMAR_H
 #define IDDESMAR_H
 
-#define IDDESMAR_VERSION "0.5.0"
+#define IDDESMAR_VERSION "0.6.0"
 
 #if defined(__has_include)
 #if __has_include(<stdint.h>) && __has_include(<stddef.h>)
@@ -35,7 +35,7 @@ extern "C" {
 #define IDDESMAR_ASSERT(fact) _Static_assert(fact, #fact)
 #endif
 
-/* An answer's number. A refusal's value is 0, and it leaves records and memory as they were handed in; the exception is named above. */
+/* An answer's number. A refusal's value is 0 (a store's four numbers, too), and it leaves records and memory as they were handed in; the exception is named above. */
 enum {
     IDDESMAR_DONE = 0,
     IDDESMAR_MEMORY = 1, /* plane lengths differ, n is 0 or above 65,536, or the picture isn't 8n long */
@@ -118,6 +118,20 @@ typedef struct iddesmar_shown {
     uint8_t number;
 } iddesmar_shown;
 
+/* What a store changed, for a painter. changed[p] is how many of the eight bits of plane p's byte differ between before the call and after it, 0 to 8, at the offset
+ * that is stored at: the one handed in, for a write of the processor the one that its address leads to, under chain-four with its low two bits clear. It is 0 for a
+ * plane that was not visited, that the mask stopped, or that got the byte it had. All four are 0 where refused.
+ *
+ * All four 0: the call changed no plane, and if the picture matched the planes before, no pixel either. There is nothing to draw for it.
+ * Not so after the host itself wrote into planes or picture: a store that stores any plane remakes the offset's eight pixels whatever its numbers are, and that may
+ * change pixels of a picture that did not match. Call iddesmar_vram_deplane for what was written by hand, and draw it, before going by these numbers again.
+ * They count bits of planes and not pixels: two planes may change in one pixel, and their sum does not say how many pixels look different.
+ * A plane that a reader must not see (plane 3, where it holds price strokes) has a number that the reader must not see either: leave changed[3] out. */
+typedef struct iddesmar_stored {
+    uint8_t changed[4];
+    uint8_t number;
+} iddesmar_stored;
+
 /* An answer, and the sequencer's record as it is left. */
 typedef struct iddesmar_seq_answer {
     iddesmar_answer answer;
@@ -139,6 +153,7 @@ IDDESMAR_ASSERT(sizeof(iddesmar_answer) == 2);
 IDDESMAR_ASSERT(sizeof(iddesmar_clock) == 8 && offsetof(iddesmar_clock, number) == 4);
 IDDESMAR_ASSERT(sizeof(iddesmar_mapped) == 16 && offsetof(iddesmar_mapped, number) == 8 && offsetof(iddesmar_mapped, a0) == 9);
 IDDESMAR_ASSERT(sizeof(iddesmar_shown) == 9 && offsetof(iddesmar_shown, number) == 8);
+IDDESMAR_ASSERT(sizeof(iddesmar_stored) == 5 && offsetof(iddesmar_stored, changed) == 0 && offsetof(iddesmar_stored, number) == 4);
 IDDESMAR_ASSERT(sizeof(iddesmar_seq_answer) == 20 && offsetof(iddesmar_seq_answer, seq) == 4);
 
 /* The five lent parts of a call, each with its length: to be read, and to be written. */
@@ -162,7 +177,7 @@ iddesmar_answer iddesmar_gc_reset(iddesmar_gc *gc);
 iddesmar_answer iddesmar_gc_write_address(iddesmar_gc *gc, uint8_t byte);
 iddesmar_answer iddesmar_gc_write_data(iddesmar_gc *gc, uint8_t byte);
 iddesmar_answer iddesmar_gc_cpu_read_u8(iddesmar_gc *gc, iddesmar_seq seq, IDDESMAR_SEEN, size_t address, uint8_t page);
-iddesmar_answer iddesmar_gc_cpu_write_u8(iddesmar_gc *gc, iddesmar_seq seq, IDDESMAR_LENT, size_t address, uint8_t page, uint8_t byte);
+iddesmar_stored iddesmar_gc_cpu_write_u8(iddesmar_gc *gc, iddesmar_seq seq, IDDESMAR_LENT, size_t address, uint8_t page, uint8_t byte);
 iddesmar_answer iddesmar_gc_cpu_peek_u8(iddesmar_gc gc, iddesmar_seq seq, IDDESMAR_SEEN, size_t address, uint8_t page);
 iddesmar_shown iddesmar_gc_serialize(iddesmar_gc gc, iddesmar_seq seq, IDDESMAR_SEEN, size_t offset);
 iddesmar_mapped iddesmar_gc_map_address(iddesmar_gc gc, size_t address, uint8_t page);
@@ -190,9 +205,9 @@ iddesmar_answer iddesmar_seq_peek_u8(iddesmar_seq seq, IDDESMAR_SEEN, size_t pla
 iddesmar_answer iddesmar_seq_gc_read_u8(iddesmar_seq seq, IDDESMAR_SEEN, size_t plane, size_t offset, uint8_t a0);
 iddesmar_answer iddesmar_seq_read_linear(iddesmar_seq seq, IDDESMAR_SEEN, size_t place);
 iddesmar_shown iddesmar_seq_serialize_linear(iddesmar_seq seq, IDDESMAR_SEEN, size_t offset);
-iddesmar_answer iddesmar_seq_plane_set(iddesmar_seq seq, IDDESMAR_LENT, size_t plane, size_t offset, uint8_t a0, uint8_t byte);
-iddesmar_answer iddesmar_seq_plane_and(iddesmar_seq seq, IDDESMAR_LENT, size_t plane, size_t offset, uint8_t a0, uint8_t byte);
-iddesmar_answer iddesmar_seq_plane_or(iddesmar_seq seq, IDDESMAR_LENT, size_t plane, size_t offset, uint8_t a0, uint8_t byte);
+iddesmar_stored iddesmar_seq_plane_set(iddesmar_seq seq, IDDESMAR_LENT, size_t plane, size_t offset, uint8_t a0, uint8_t byte);
+iddesmar_stored iddesmar_seq_plane_and(iddesmar_seq seq, IDDESMAR_LENT, size_t plane, size_t offset, uint8_t a0, uint8_t byte);
+iddesmar_stored iddesmar_seq_plane_or(iddesmar_seq seq, IDDESMAR_LENT, size_t plane, size_t offset, uint8_t a0, uint8_t byte);
 
 /* ---- memory alone */
 
@@ -201,10 +216,10 @@ iddesmar_answer iddesmar_vram_peek_u8(IDDESMAR_SEEN, size_t plane, size_t offset
 iddesmar_answer iddesmar_vram_read_glyph(IDDESMAR_SEEN, size_t offset);
 iddesmar_answer iddesmar_vram_read_linear(IDDESMAR_SEEN, size_t place);
 iddesmar_shown iddesmar_vram_serialize_linear(IDDESMAR_SEEN, size_t offset);
-iddesmar_answer iddesmar_vram_write_u8(IDDESMAR_LENT, size_t plane, size_t offset, uint8_t byte);
-iddesmar_answer iddesmar_vram_plane_set(IDDESMAR_LENT, size_t plane, size_t offset, uint8_t byte);
-iddesmar_answer iddesmar_vram_plane_and(IDDESMAR_LENT, size_t plane, size_t offset, uint8_t byte);
-iddesmar_answer iddesmar_vram_plane_or(IDDESMAR_LENT, size_t plane, size_t offset, uint8_t byte);
+iddesmar_stored iddesmar_vram_write_u8(IDDESMAR_LENT, size_t plane, size_t offset, uint8_t byte);
+iddesmar_stored iddesmar_vram_plane_set(IDDESMAR_LENT, size_t plane, size_t offset, uint8_t byte);
+iddesmar_stored iddesmar_vram_plane_and(IDDESMAR_LENT, size_t plane, size_t offset, uint8_t byte);
+iddesmar_stored iddesmar_vram_plane_or(IDDESMAR_LENT, size_t plane, size_t offset, uint8_t byte);
 iddesmar_answer iddesmar_vram_deplane(const uint8_t *p0, size_t n0, const uint8_t *p1, size_t n1, const uint8_t *p2, size_t n2, const uint8_t *p3, size_t n3,
                                       uint8_t *picture, size_t pixels, size_t offset);
 

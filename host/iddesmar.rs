@@ -5,6 +5,14 @@
 //! write of the processor that is refused with `Window` or `Offset` has raised `stats.refused_accesses` by one, and that alone. The library is handed
 //! slices that Rust itself has borrowed, each with its own length, so no call can reach outside them.
 //!
+//! The eight stores (`Vram`'s `write_u8`, `plane_set`, `plane_and` and `plane_or`, the sequencer's three, `cpu_write_u8`) hand back four numbers, plane 0 first: how
+//! many of the eight bits of each plane's byte changed, at the offset that is stored at (under chain-four with its low two bits clear; of `cpu_write_u8` the one that
+//! the address leads to). A plane that was not visited, that the mask stopped or that got the byte it had has 0.
+//! For a painter: `[0; 4]` says that no plane changed, and so no pixel, if the picture matched the planes before. A picture that did not match, as after a `Vram::over`
+//! of memory that was written by hand, is remade at its offset by any store that stores a plane, whatever the numbers: `deplane` and draw first, then go by them.
+//! They count bits of planes, and not pixels that look different: two planes may change in one pixel. Who must not see a plane (plane 3, where it holds price strokes)
+//! must not see its number.
+//!
 //! A state is saved as the two records (`record`, plain data with public fields, laid out as in C) and the bytes of `Vram`, and comes back by
 //! `GraphicsController::from_record` and `Sequencer::from_record`. Any record may come: where it holds a value that its registers cannot, every call
 //! but `reset` refuses with `Refusal::State`.
@@ -183,6 +191,19 @@ struct Shown {
     number: u8,
 }
 
+/// What a store changed: how many bits of each plane's byte; four zeros where refused.
+#[repr(C)]
+struct Stored {
+    changed: [u8; 4],
+    number: u8,
+}
+
+impl Stored {
+    fn changed(self) -> Result<[u8; 4], Refusal> {
+        judged(self.number, self.changed)
+    }
+}
+
 #[repr(C)]
 struct SequencerAnswer {
     answer: Answer,
@@ -205,6 +226,7 @@ const _: () = {
     assert!(size_of::<Clock>() == 8 && offset_of!(Clock, number) == 4);
     assert!(size_of::<Mapped>() == 16 && offset_of!(Mapped, number) == 8 && offset_of!(Mapped, a0) == 9);
     assert!(size_of::<Shown>() == 9 && offset_of!(Shown, number) == 8);
+    assert!(size_of::<Stored>() == 5 && offset_of!(Stored, changed) == 0 && offset_of!(Stored, number) == 4);
     assert!(size_of::<SequencerAnswer>() == 20 && offset_of!(SequencerAnswer, seq) == 4);
 };
 
@@ -223,7 +245,7 @@ type Lent = *mut u8;
 
 calls! {
     fn iddesmar_gc_cpu_read_u8(&mut ControllerRecord, SequencerRecord; Seen, Seen; usize, u8) -> Answer;
-    fn iddesmar_gc_cpu_write_u8(&mut ControllerRecord, SequencerRecord; Lent, Lent; usize, u8, u8) -> Answer;
+    fn iddesmar_gc_cpu_write_u8(&mut ControllerRecord, SequencerRecord; Lent, Lent; usize, u8, u8) -> Stored;
     fn iddesmar_gc_cpu_peek_u8(ControllerRecord, SequencerRecord; Seen, Seen; usize, u8) -> Answer;
     fn iddesmar_gc_serialize(ControllerRecord, SequencerRecord; Seen, Seen; usize) -> Shown;
     fn iddesmar_seq_cpu_read_u8(SequencerRecord; Seen, Seen; usize, usize, u8) -> Answer;
@@ -231,18 +253,18 @@ calls! {
     fn iddesmar_seq_gc_read_u8(SequencerRecord; Seen, Seen; usize, usize, u8) -> Answer;
     fn iddesmar_seq_read_linear(SequencerRecord; Seen, Seen; usize) -> Answer;
     fn iddesmar_seq_serialize_linear(SequencerRecord; Seen, Seen; usize) -> Shown;
-    fn iddesmar_seq_plane_set(SequencerRecord; Lent, Lent; usize, usize, u8, u8) -> Answer;
-    fn iddesmar_seq_plane_and(SequencerRecord; Lent, Lent; usize, usize, u8, u8) -> Answer;
-    fn iddesmar_seq_plane_or(SequencerRecord; Lent, Lent; usize, usize, u8, u8) -> Answer;
+    fn iddesmar_seq_plane_set(SequencerRecord; Lent, Lent; usize, usize, u8, u8) -> Stored;
+    fn iddesmar_seq_plane_and(SequencerRecord; Lent, Lent; usize, usize, u8, u8) -> Stored;
+    fn iddesmar_seq_plane_or(SequencerRecord; Lent, Lent; usize, usize, u8, u8) -> Stored;
     fn iddesmar_vram_read_u8(; Seen, Seen; usize, usize) -> Answer;
     fn iddesmar_vram_peek_u8(; Seen, Seen; usize, usize) -> Answer;
     fn iddesmar_vram_read_glyph(; Seen, Seen; usize) -> Answer;
     fn iddesmar_vram_read_linear(; Seen, Seen; usize) -> Answer;
     fn iddesmar_vram_serialize_linear(; Seen, Seen; usize) -> Shown;
-    fn iddesmar_vram_write_u8(; Lent, Lent; usize, usize, u8) -> Answer;
-    fn iddesmar_vram_plane_set(; Lent, Lent; usize, usize, u8) -> Answer;
-    fn iddesmar_vram_plane_and(; Lent, Lent; usize, usize, u8) -> Answer;
-    fn iddesmar_vram_plane_or(; Lent, Lent; usize, usize, u8) -> Answer;
+    fn iddesmar_vram_write_u8(; Lent, Lent; usize, usize, u8) -> Stored;
+    fn iddesmar_vram_plane_set(; Lent, Lent; usize, usize, u8) -> Stored;
+    fn iddesmar_vram_plane_and(; Lent, Lent; usize, usize, u8) -> Stored;
+    fn iddesmar_vram_plane_or(; Lent, Lent; usize, usize, u8) -> Stored;
     fn iddesmar_vram_deplane(; Seen, Lent; usize) -> Answer;
 }
 
@@ -354,8 +376,9 @@ impl<B: AsRef<[u8]> + AsMut<[u8]>> Vram<B> {
         seen!(iddesmar_vram_read_u8(; self; plane, offset)).byte()
     }
 
-    pub fn write_u8(&mut self, plane: usize, offset: usize, data: u8) -> Result<(), Refusal> {
-        lent!(iddesmar_vram_write_u8(; self; plane, offset, data)).done()
+    /// How many bits of each plane's byte changed, as from the other seven stores: a direct one changes its own plane's alone.
+    pub fn write_u8(&mut self, plane: usize, offset: usize, data: u8) -> Result<[u8; 4], Refusal> {
+        lent!(iddesmar_vram_write_u8(; self; plane, offset, data)).changed()
     }
 
     pub fn read_linear(&self, place: usize) -> Result<u8, Refusal> {
@@ -373,16 +396,16 @@ impl<B: AsRef<[u8]> + AsMut<[u8]>> Vram<B> {
         unsafe { iddesmar_vram_deplane(a.as_ptr(), a.len(), b.as_ptr(), b.len(), c.as_ptr(), c.len(), d.as_ptr(), d.len(), e.as_mut_ptr(), e.len(), offset) }.done()
     }
 
-    pub fn plane_set(&mut self, plane: usize, offset: usize, data: u8) -> Result<(), Refusal> {
-        lent!(iddesmar_vram_plane_set(; self; plane, offset, data)).done()
+    pub fn plane_set(&mut self, plane: usize, offset: usize, data: u8) -> Result<[u8; 4], Refusal> {
+        lent!(iddesmar_vram_plane_set(; self; plane, offset, data)).changed()
     }
 
-    pub fn plane_and(&mut self, plane: usize, offset: usize, data: u8) -> Result<(), Refusal> {
-        lent!(iddesmar_vram_plane_and(; self; plane, offset, data)).done()
+    pub fn plane_and(&mut self, plane: usize, offset: usize, data: u8) -> Result<[u8; 4], Refusal> {
+        lent!(iddesmar_vram_plane_and(; self; plane, offset, data)).changed()
     }
 
-    pub fn plane_or(&mut self, plane: usize, offset: usize, data: u8) -> Result<(), Refusal> {
-        lent!(iddesmar_vram_plane_or(; self; plane, offset, data)).done()
+    pub fn plane_or(&mut self, plane: usize, offset: usize, data: u8) -> Result<[u8; 4], Refusal> {
+        lent!(iddesmar_vram_plane_or(; self; plane, offset, data)).changed()
     }
 }
 
@@ -487,16 +510,17 @@ impl<B: AsRef<[u8]> + AsMut<[u8]>> Sequencer<B> {
         judged(shown.number, shown.pixels)
     }
 
-    pub fn plane_set(&mut self, plane: usize, offset: usize, a0: bool, data: u8) -> Result<(), Refusal> {
-        lent!(iddesmar_seq_plane_set(self.record; self.vram; plane, offset, a0 as u8, data)).done()
+    /// How many bits of each plane's byte changed; under chain-four at the offset with its low two bits clear.
+    pub fn plane_set(&mut self, plane: usize, offset: usize, a0: bool, data: u8) -> Result<[u8; 4], Refusal> {
+        lent!(iddesmar_seq_plane_set(self.record; self.vram; plane, offset, a0 as u8, data)).changed()
     }
 
-    pub fn plane_and(&mut self, plane: usize, offset: usize, a0: bool, data: u8) -> Result<(), Refusal> {
-        lent!(iddesmar_seq_plane_and(self.record; self.vram; plane, offset, a0 as u8, data)).done()
+    pub fn plane_and(&mut self, plane: usize, offset: usize, a0: bool, data: u8) -> Result<[u8; 4], Refusal> {
+        lent!(iddesmar_seq_plane_and(self.record; self.vram; plane, offset, a0 as u8, data)).changed()
     }
 
-    pub fn plane_or(&mut self, plane: usize, offset: usize, a0: bool, data: u8) -> Result<(), Refusal> {
-        lent!(iddesmar_seq_plane_or(self.record; self.vram; plane, offset, a0 as u8, data)).done()
+    pub fn plane_or(&mut self, plane: usize, offset: usize, a0: bool, data: u8) -> Result<[u8; 4], Refusal> {
+        lent!(iddesmar_seq_plane_or(self.record; self.vram; plane, offset, a0 as u8, data)).changed()
     }
 }
 
@@ -585,8 +609,9 @@ impl GraphicsController {
         seen!(iddesmar_gc_cpu_peek_u8(self.record, seq.record; seq.vram; address, page_select as u8)).byte()
     }
 
-    pub fn cpu_write_u8<B: AsRef<[u8]> + AsMut<[u8]>>(&mut self, seq: &mut Sequencer<B>, address: usize, page_select: PageSelect, byte: u8) -> Result<(), Refusal> {
-        lent!(iddesmar_gc_cpu_write_u8(&mut self.record, seq.record; seq.vram; address, page_select as u8, byte)).done()
+    /// How many bits of each plane's byte changed, at the offset that the address leads to: `[0; 4]` leaves a painter nothing to draw.
+    pub fn cpu_write_u8<B: AsRef<[u8]> + AsMut<[u8]>>(&mut self, seq: &mut Sequencer<B>, address: usize, page_select: PageSelect, byte: u8) -> Result<[u8; 4], Refusal> {
+        lent!(iddesmar_gc_cpu_write_u8(&mut self.record, seq.record; seq.vram; address, page_select as u8, byte)).changed()
     }
 
     /// The eight pixels of a plane offset.

@@ -1,4 +1,5 @@
 /* A host in C: runs the list of calls on standard input as `replay` does, and prints the same lines. `test layout` tries the records' layout instead.
+ * What each store says that it changed is held to a count made here, from the lent planes before and after it.
  * The kit's compiler has no C headers, so what is used of the C library is declared here. */
 #include "iddesmar.h"
 
@@ -16,6 +17,19 @@ static uint8_t picture[8 * N];
 static iddesmar_memory memory = {{planes[0], planes[1], planes[2], planes[3]}, picture, N};
 static iddesmar_gc gc;
 static iddesmar_seq seq;
+
+static int wrong; /* how often; the first 20 are told */
+
+static void expect(const char *what, u64 is, u64 should) {
+    if (is == should) return;
+    if (wrong < 20) printf("test-c: %s is %llu, not %llu\n", what, is, should);
+    wrong++;
+}
+
+static void same(const char *what, const void *is, const void *was, size_t size) {
+    const uint8_t *left = is, *given = was;
+    for (size_t i = 0; i < size; i++) expect(what, left[i], given[i]);
+}
 
 /* ---- lines */
 
@@ -41,6 +55,10 @@ static void shown(iddesmar_shown s) {
     printf(" 0 ");
     for (int i = 0; i < 8; i++) putchar("0123456789ABCDEF"[s.pixels[i] % 16]);
     putchar('\n');
+}
+
+static void stored(iddesmar_stored s) {
+    printf(" %u %u %u %u %u\n", s.number, s.changed[0], s.changed[1], s.changed[2], s.changed[3]);
 }
 
 static void mapped(iddesmar_mapped m) {
@@ -75,6 +93,64 @@ static void digest(void) {
 
 #define ALL IDDESMAR_ALL(&memory)
 
+/* The four planes' bytes at an offset; past the planes, where every store is refused, there are none. */
+typedef struct column {
+    size_t offset;
+    uint8_t bytes[4];
+} column;
+
+static column column_at(size_t offset) {
+    column c = {offset, {0, 0, 0, 0}};
+    for (int p = 0; p < 4 && offset < N; p++) c.bytes[p] = planes[p][offset];
+    return c;
+}
+
+/* Where the sequencer's stores store: under chain-four the low two bits of the offset are clear. */
+static size_t stored_at(iddesmar_seq s, size_t offset) {
+    return s.memory_mode & 8 ? offset / 4 * 4 : offset;
+}
+
+static unsigned differing_bits(uint8_t a, uint8_t b) {
+    unsigned count = 0;
+    for (int i = 0; i < 8; i++) count += (a >> i & 1) != (b >> i & 1);
+    return count;
+}
+
+/* A store's numbers, beside the bytes before it and those that are there now; a refused one has four zeros, and its bytes stay. */
+static iddesmar_stored counted(iddesmar_stored s, column before) {
+    column now = column_at(before.offset);
+    for (int p = 0; p < 4; p++) {
+        if (s.number != IDDESMAR_DONE) expect("a byte after a refused store", now.bytes[p], before.bytes[p]);
+        expect("changed", s.changed[p], differing_bits(before.bytes[p], now.bytes[p]));
+    }
+    return s;
+}
+
+static iddesmar_stored vram_store(u64 operation, size_t plane, size_t offset, uint8_t byte) {
+    column before = column_at(offset);
+    switch (operation) {
+    case 6: return counted(iddesmar_vram_write_u8(ALL, plane, offset, byte), before);
+    case 7: return counted(iddesmar_vram_plane_set(ALL, plane, offset, byte), before);
+    case 8: return counted(iddesmar_vram_plane_and(ALL, plane, offset, byte), before);
+    default: return counted(iddesmar_vram_plane_or(ALL, plane, offset, byte), before);
+    }
+}
+
+static iddesmar_stored seq_store(u64 operation, iddesmar_seq s, size_t plane, size_t offset, uint8_t a0, uint8_t byte) {
+    column before = column_at(stored_at(s, offset));
+    switch (operation) {
+    case 24: return counted(iddesmar_seq_plane_set(s, ALL, plane, offset, a0, byte), before);
+    case 25: return counted(iddesmar_seq_plane_and(s, ALL, plane, offset, a0, byte), before);
+    default: return counted(iddesmar_seq_plane_or(s, ALL, plane, offset, a0, byte), before);
+    }
+}
+
+static iddesmar_stored cpu_write(iddesmar_gc *g, iddesmar_seq s, size_t address, uint8_t page, uint8_t byte) {
+    iddesmar_mapped m = iddesmar_gc_map_address(*g, address, page);
+    column before = column_at(m.number == IDDESMAR_DONE ? stored_at(s, m.offset) : N);
+    return counted(iddesmar_gc_cpu_write_u8(g, s, ALL, address, page, byte), before);
+}
+
 static void vram_call(u64 operation, const u64 *x) {
     switch (operation) {
     case 1: answered(iddesmar_vram_read_u8(ALL, x[0], x[1])); break;
@@ -82,11 +158,8 @@ static void vram_call(u64 operation, const u64 *x) {
     case 3: answered(iddesmar_vram_read_glyph(ALL, x[0])); break;
     case 4: answered(iddesmar_vram_read_linear(ALL, x[0])); break;
     case 5: shown(iddesmar_vram_serialize_linear(ALL, x[0])); break;
-    case 6: answered(iddesmar_vram_write_u8(ALL, x[0], x[1], (uint8_t)x[2])); break;
-    case 7: answered(iddesmar_vram_plane_set(ALL, x[0], x[1], (uint8_t)x[2])); break;
-    case 8: answered(iddesmar_vram_plane_and(ALL, x[0], x[1], (uint8_t)x[2])); break;
-    case 9: answered(iddesmar_vram_plane_or(ALL, x[0], x[1], (uint8_t)x[2])); break;
-    default: answered(iddesmar_vram_deplane(ALL, x[0])); break;
+    case 10: answered(iddesmar_vram_deplane(ALL, x[0])); break;
+    default: stored(vram_store(operation, x[0], x[1], (uint8_t)x[2])); break; /* 6 to 9 */
     }
 }
 
@@ -109,9 +182,7 @@ static void sequencer_call(u64 operation, const u64 *x) {
     case 21: answered(iddesmar_seq_gc_read_u8(seq, ALL, x[0], x[1], x[2] != 0)); break;
     case 22: answered(iddesmar_seq_read_linear(seq, ALL, x[0])); break;
     case 23: shown(iddesmar_seq_serialize_linear(seq, ALL, x[0])); break;
-    case 24: answered(iddesmar_seq_plane_set(seq, ALL, x[0], x[1], x[2] != 0, (uint8_t)x[3])); break;
-    case 25: answered(iddesmar_seq_plane_and(seq, ALL, x[0], x[1], x[2] != 0, (uint8_t)x[3])); break;
-    default: answered(iddesmar_seq_plane_or(seq, ALL, x[0], x[1], x[2] != 0, (uint8_t)x[3])); break;
+    default: stored(seq_store(operation, seq, x[0], x[1], x[2] != 0, (uint8_t)x[3])); break; /* 24 to 26 */
     }
 }
 
@@ -130,7 +201,7 @@ static void controller_call(u64 operation, const u64 *x) {
     case 37: mapped(iddesmar_gc_map_address(gc, x[0], x[1] != 0)); break;
     case 38: answered(iddesmar_gc_cpu_read_u8(&gc, seq, ALL, x[0], x[1] != 0)); break;
     case 39: answered(iddesmar_gc_cpu_peek_u8(gc, seq, ALL, x[0], x[1] != 0)); break;
-    case 40: answered(iddesmar_gc_cpu_write_u8(&gc, seq, ALL, x[0], x[1] != 0, (uint8_t)x[2])); break;
+    case 40: stored(cpu_write(&gc, seq, x[0], x[1] != 0, (uint8_t)x[2])); break;
     default: shown(iddesmar_gc_serialize(gc, seq, ALL, x[0])); break;
     }
 }
@@ -175,14 +246,6 @@ static void list(void) {
 
 /* ---- the layout: the library finds each field where C has it, and touches nothing beside a record */
 
-static int wrong; /* how often; the first 20 are told */
-
-static void expect(const char *what, u64 is, u64 should) {
-    if (is == should) return;
-    if (wrong < 20) printf("layout: %s is %llu, not %llu\n", what, is, should);
-    wrong++;
-}
-
 typedef struct guarded {
     uint8_t before[32];
     iddesmar_gc gc;
@@ -216,10 +279,10 @@ static void controller_accesses(guarded *g) {
     for (int i = 0; i < 4; i++) {
         expect("a latch", g->gc.latches[i], (u64)(17 * (i + 1)));
         g->gc.mode = (uint8_t)i;
-        for (int k = 0; k < 1 + i; k++) iddesmar_gc_cpu_write_u8(&g->gc, seq, ALL, 0xA0000, 0, 0);
+        for (int k = 0; k < 1 + i; k++) cpu_write(&g->gc, seq, 0xA0000, 0, 0);
     }
     for (int k = 0; k < 3; k++) iddesmar_gc_cpu_read_u8(&g->gc, seq, ALL, 0x9FFFF, 0);
-    for (int k = 0; k < 4; k++) iddesmar_gc_cpu_write_u8(&g->gc, seq, ALL, 0xC0000, 0, 0);
+    for (int k = 0; k < 4; k++) cpu_write(&g->gc, seq, 0xC0000, 0, 0);
     const uint32_t *counters = &g->gc.stats.mode_0_writes;
     for (int i = 0; i < 7; i++) expect("a counter", counters[i], (u64)(1 + i));
 }
@@ -244,14 +307,98 @@ static void sequencer_fields(void) {
     expect("clock", iddesmar_seq_clock(seq).clock, 16);
 }
 
+/* ---- what a store answers comes back by value: five bytes, plane 0's number to plane 3's, then the answer's */
+
+static const uint8_t nothing[4] = {0, 0, 0, 0};
+
+static void store_answers(const char *what, iddesmar_stored s, unsigned number, const uint8_t *changed) {
+    same(what, &s, changed, 4);
+    expect(what, ((const uint8_t *)&s)[4], number);
+}
+
+/* A store that is done and has changed so many bits, all of one plane. */
+static void one_plane(const char *what, iddesmar_stored s, size_t plane, unsigned bits) {
+    uint8_t changed[4] = {0, 0, 0, 0};
+    changed[plane] = (uint8_t)bits;
+    store_answers(what, s, IDDESMAR_DONE, changed);
+}
+
+/* A direct store by its number in lists, through a mask that has every plane. */
+static iddesmar_stored direct_store(u64 operation, size_t plane, uint8_t byte) {
+    iddesmar_seq s = iddesmar_seq_new();
+    s.map_mask = 15;
+    s.memory_mode = 4;
+    return operation < 24 ? vram_store(operation, plane, 9, byte) : seq_store(operation, s, plane, 9, 0, byte);
+}
+
+/* It tells k for its plane and, made once more, nothing. */
+static void direct_tells(u64 operation, size_t plane, uint8_t byte, unsigned k) {
+    one_plane("a direct store", direct_store(operation, plane, byte), plane, k);
+    one_plane("a direct store made again", direct_store(operation, plane, byte), plane, 0);
+}
+
+/* Each lays k bits where none is, and one of the two `and` takes them away. */
+static void direct_numbers(size_t plane, unsigned k) {
+    static const u64 lays[5] = {6, 7, 9, 24, 26};
+    planes[plane][9] = 0;
+    for (int i = 0; i < 5; i++) {
+        direct_tells(lays[i], plane, (uint8_t)((1 << k) - 1), k);
+        direct_tells(i % 2 ? 25 : 8, plane, 0, k);
+    }
+}
+
+/* Under chain-four offset 11 is plane 3's byte at 8, and the mask stops the others. */
+static void chained_numbers(void) {
+    iddesmar_seq s = iddesmar_seq_new();
+    s.memory_mode = 8;
+    for (size_t p = 0; p < 4; p++) {
+        planes[p][8] = 0x10;
+        planes[p][11] = 0xFF;
+        one_plane("plane_or under chain-four", seq_store(26, s, p, 11, 0, 0x1F), p, p == 3 ? 4 : 0);
+        expect("a byte at the offset handed in", planes[p][11], 0xFF);
+    }
+}
+
+/* A row of a write's rules: registers, address and byte, and the four numbers, on bytes that have 1, 2, 4 and 7 bits set. */
+typedef struct write_row {
+    uint8_t gc_mode, memory_mode, map_mask;
+    size_t address;
+    uint8_t byte, number, changed[4];
+} write_row;
+
+static void cpu_numbers(void) {
+    static const uint8_t bytes[4] = {0x10, 0x81, 0x6C, 0xFE};
+    static const write_row rows[] = {
+        {0x00, 4, 15, 0xA0008, 0x00, IDDESMAR_DONE, {1, 2, 4, 7}},
+        {0x00, 4, 15, 0xA0008, 0xFF, IDDESMAR_DONE, {7, 6, 4, 1}},
+        {0x00, 4, 5, 0xA0008, 0x00, IDDESMAR_DONE, {1, 0, 4, 0}},     /* Map Mask stops planes 1 and 3 */
+        {0x10, 4, 15, 0xA0008, 0x00, IDDESMAR_DONE, {1, 0, 4, 0}},    /* odd/even of the controller visits planes 0 and 2 */
+        {0x00, 0, 15, 0xA0008, 0x00, IDDESMAR_DONE, {1, 0, 4, 0}},    /* that of the sequencer stops 1 and 3 */
+        {0x00, 12, 15, 0xA000B, 0x00, IDDESMAR_DONE, {0, 0, 0, 7}},   /* chain-four: plane 3, at 8 */
+        {0x00, 4, 15, 0xA0008, 0x10, IDDESMAR_DONE, {0, 3, 5, 6}},    /* plane 0 has that byte */
+        {0x00, 4, 0, 0xA0008, 0x00, IDDESMAR_DONE, {0, 0, 0, 0}},
+        {0x00, 4, 15, 0x9FFFF, 0x00, IDDESMAR_WINDOW, {0, 0, 0, 0}},
+    };
+    for (size_t i = 0; i < sizeof rows / sizeof *rows; i++) {
+        iddesmar_gc g = iddesmar_gc_new();
+        iddesmar_seq s = iddesmar_seq_new();
+        g.mode = rows[i].gc_mode;
+        g.bitmask = 0xFF;
+        s.memory_mode = rows[i].memory_mode;
+        s.map_mask = rows[i].map_mask;
+        for (int p = 0; p < 4; p++) planes[p][8] = bytes[p];
+        store_answers("a write", cpu_write(&g, s, rows[i].address, 0, rows[i].byte), rows[i].number, rows[i].changed);
+    }
+}
+
 /* A number that selects no register is refusal 6 and changes nothing; a reset takes it. */
 static void unknown_registers(void) {
     gc = iddesmar_gc_new();
     seq = iddesmar_seq_new();
     gc.register_selected = 9;
     expect("write_data of register 9", iddesmar_gc_write_data(&gc, 5).number, IDDESMAR_STATE);
-    expect("a write with register 9", iddesmar_gc_cpu_write_u8(&gc, seq, ALL, 0xA0000, 0, 5).number, IDDESMAR_STATE);
-    expect("a write outside the window with register 9", iddesmar_gc_cpu_write_u8(&gc, seq, ALL, 0x9FFFF, 0, 5).number, IDDESMAR_STATE);
+    store_answers("a write with register 9", cpu_write(&gc, seq, 0xA0000, 0, 5), IDDESMAR_STATE, nothing);
+    store_answers("a write outside the window with register 9", cpu_write(&gc, seq, 0x9FFFF, 0, 5), IDDESMAR_STATE, nothing);
     expect("a read outside the window with register 9", iddesmar_gc_cpu_read_u8(&gc, seq, ALL, 0x9FFFF, 0).number, IDDESMAR_STATE);
     expect("refused_accesses with register 9", gc.stats.refused_accesses, 0);
     expect("a show with register 9", iddesmar_gc_serialize(gc, seq, ALL, 0).number, IDDESMAR_STATE);
@@ -261,6 +408,7 @@ static void unknown_registers(void) {
     seq.register_selected = 6;
     expect("clock with register 6", iddesmar_seq_clock(seq).number, IDDESMAR_STATE);
     expect("a read with register 6", iddesmar_gc_cpu_read_u8(&gc, seq, ALL, 0xA0000, 0).number, IDDESMAR_STATE);
+    store_answers("a write with register 6", cpu_write(&gc, seq, 0xA0000, 0, 5), IDDESMAR_STATE, nothing);
     expect("reset of register 6", iddesmar_seq_reset(seq).answer.number, IDDESMAR_DONE);
 }
 
@@ -310,11 +458,6 @@ static iddesmar_seq fitting_seq(int seed) {
     return s;
 }
 
-static void same(const char *what, const void *is, const void *was, size_t size) {
-    const uint8_t *left = is, *given = was;
-    for (size_t i = 0; i < size; i++) expect(what, left[i], given[i]);
-}
-
 static void gc_refused(const char *what, iddesmar_answer a, unsigned number, const iddesmar_gc *left, iddesmar_gc given) {
     expect(what, a.number, number);
     expect(what, a.value, 0);
@@ -327,16 +470,35 @@ static void seq_refused(const char *what, iddesmar_seq_answer a, iddesmar_seq gi
     same(what, &a.seq, &given, sizeof given);
 }
 
+/* A memory with plane 3 lent by so many bytes shorter. */
+#define LENT(m, shorter) (m).planes[0], (m).n, (m).planes[1], (m).n, (m).planes[2], (m).n, (m).planes[3], (m).n - (shorter), (m).picture, 8 * (m).n
+
 /* An access of the processor that is refused with this number, as a read and as a write: each is counted where the number is 2 or 3. */
 static void accesses_refused(unsigned number, iddesmar_gc given, iddesmar_seq s, iddesmar_memory m, size_t shorter, size_t address) {
     iddesmar_gc left = given;
-    uint32_t counted = number == IDDESMAR_WINDOW || number == IDDESMAR_OFFSET;
-    iddesmar_answer a = iddesmar_gc_cpu_read_u8(&left, s, m.planes[0], m.n, m.planes[1], m.n, m.planes[2], m.n, m.planes[3], m.n - shorter, m.picture, 8 * m.n, address, 1);
-    given.stats.refused_accesses += counted;
-    gc_refused("a refused read", a, number, &left, given);
-    a = iddesmar_gc_cpu_write_u8(&left, s, m.planes[0], m.n, m.planes[1], m.n, m.planes[2], m.n, m.planes[3], m.n - shorter, m.picture, 8 * m.n, address, 1, 0x3C);
-    given.stats.refused_accesses += counted;
-    gc_refused("a refused write", a, number, &left, given);
+    uint32_t raised = number == IDDESMAR_WINDOW || number == IDDESMAR_OFFSET;
+    given.stats.refused_accesses += raised;
+    gc_refused("a refused read", iddesmar_gc_cpu_read_u8(&left, s, LENT(m, shorter), address, 1), number, &left, given);
+    given.stats.refused_accesses += raised;
+    store_answers("a refused write", iddesmar_gc_cpu_write_u8(&left, s, LENT(m, shorter), address, 1, 0x3C), number, nothing);
+    same("a record after a refused write", &left, &given, sizeof given);
+}
+
+static void seq_stores_refused(unsigned number, iddesmar_seq s, iddesmar_memory m, size_t shorter, size_t plane, size_t offset) {
+    column before = column_at(offset);
+    store_answers("a refused plane_set of the sequencer", counted(iddesmar_seq_plane_set(s, LENT(m, shorter), plane, offset, 1, 0x3C), before), number, nothing);
+    store_answers("a refused plane_and of the sequencer", counted(iddesmar_seq_plane_and(s, LENT(m, shorter), plane, offset, 1, 0x3C), before), number, nothing);
+    store_answers("a refused plane_or of the sequencer", counted(iddesmar_seq_plane_or(s, LENT(m, shorter), plane, offset, 1, 0x3C), before), number, nothing);
+}
+
+/* The seven direct stores. */
+static void stores_refused(unsigned number, iddesmar_seq s, iddesmar_memory m, size_t shorter, size_t plane, size_t offset) {
+    column before = column_at(offset);
+    store_answers("a refused write_u8", counted(iddesmar_vram_write_u8(LENT(m, shorter), plane, offset, 0x3C), before), number, nothing);
+    store_answers("a refused plane_set", counted(iddesmar_vram_plane_set(LENT(m, shorter), plane, offset, 0x3C), before), number, nothing);
+    store_answers("a refused plane_and", counted(iddesmar_vram_plane_and(LENT(m, shorter), plane, offset, 0x3C), before), number, nothing);
+    store_answers("a refused plane_or", counted(iddesmar_vram_plane_or(LENT(m, shorter), plane, offset, 0x3C), before), number, nothing);
+    seq_stores_refused(number, s, m, shorter, plane, offset);
 }
 
 static void gc_unfit(iddesmar_gc given, iddesmar_seq s) {
@@ -354,6 +516,7 @@ static void seq_unfit(iddesmar_seq given) {
     seq_refused("a refused poll_clock_change", iddesmar_seq_poll_clock_change(given), given);
     accesses_refused(IDDESMAR_STATE, fitting_gc(given.clock_change_pending), given, memory, 0, 0xA0000);
     accesses_refused(IDDESMAR_STATE, fitting_gc(given.clock_change_pending), given, memory, 0, 0x9FFFF);
+    seq_stores_refused(IDDESMAR_STATE, given, memory, 0, 0, 0);
 }
 
 static void refusals(int seed) {
@@ -377,14 +540,17 @@ static void refusals(int seed) {
     accesses_refused(IDDESMAR_MEMORY, g, s, memory, 1, 0x9FFFF);
     accesses_refused(IDDESMAR_WINDOW, g, s, memory, 0, 0x9FFFF);
     accesses_refused(IDDESMAR_OFFSET, g, s, small, 0, 0xA0010);
+    stores_refused(IDDESMAR_MEMORY, s, memory, 1, 4, N);
+    stores_refused(IDDESMAR_PLANE, s, memory, 0, 4 + (size_t)seed, N);
+    stores_refused(IDDESMAR_OFFSET, s, small, 0, (size_t)seed % 4, 16);
     g.stats.refused_accesses = 0xFFFFFFFFu;
     accesses_refused(IDDESMAR_WINDOW, g, s, memory, 0, 0xB0000);
 }
 
 /* ---- accepted calls: the spare byte stays, and the mark is 0 or 1 */
 
-static void spare_kept(const char *what, iddesmar_answer a, const iddesmar_gc *left, int seed) {
-    expect(what, a.number, IDDESMAR_DONE);
+static void spare_kept(const char *what, unsigned number, const iddesmar_gc *left, int seed) {
+    expect(what, number, IDDESMAR_DONE);
     expect(what, left->spare, (uint8_t)(seed + 37 * offsetof(iddesmar_gc, spare)));
 }
 
@@ -398,12 +564,12 @@ static void acceptances(int seed) {
     unsigned set = seed != 0;
     iddesmar_gc g = fitting_gc(seed);
     iddesmar_seq s = fitting_seq(seed);
-    spare_kept("spare after a read", iddesmar_gc_cpu_read_u8(&g, s, ALL, 0xA0000, 0), &g, seed);
-    spare_kept("spare after a write", iddesmar_gc_cpu_write_u8(&g, s, ALL, 0xA0000, 0, 0x3C), &g, seed);
-    spare_kept("spare after write_address", iddesmar_gc_write_address(&g, 8), &g, seed);
-    spare_kept("spare after write_data", iddesmar_gc_write_data(&g, 0x3C), &g, seed);
+    spare_kept("spare after a read", iddesmar_gc_cpu_read_u8(&g, s, ALL, 0xA0000, 0).number, &g, seed);
+    spare_kept("spare after a write", cpu_write(&g, s, 0xA0000, 0, 0x3C).number, &g, seed);
+    spare_kept("spare after write_address", iddesmar_gc_write_address(&g, 8).number, &g, seed);
+    spare_kept("spare after write_data", iddesmar_gc_write_data(&g, 0x3C).number, &g, seed);
     expect("bitmask", g.bitmask, 0x3C);
-    spare_kept("spare after reset", iddesmar_gc_reset(&g), &g, seed);
+    spare_kept("spare after reset", iddesmar_gc_reset(&g).number, &g, seed);
     expect("bitmask after reset", g.bitmask, 0);
     marked("the mark after write_address", iddesmar_seq_write_address(s, 2), 0, set);
     s = iddesmar_seq_write_address(s, 2).seq;
@@ -414,6 +580,22 @@ static void acceptances(int seed) {
     marked("the mark after reset", iddesmar_seq_reset(s), 0, 0);
 }
 
+/* What a write stores hangs on registers, latches and byte, and not on what is there: made again, it changes nothing. How many bits the first ones changed. */
+static unsigned writes_again(int seed) {
+    unsigned bits = 0;
+    iddesmar_gc g = fitting_gc(seed);
+    iddesmar_seq s = fitting_seq(seed);
+    for (int k = 0; k < 8; k++) {
+        size_t address = 0xA0000 + (size_t)(5 * seed + k);
+        uint8_t byte = (uint8_t)(7 * seed + 41 * k);
+        iddesmar_stored first = cpu_write(&g, s, address, 1, byte);
+        expect("a write", first.number, IDDESMAR_DONE);
+        for (int p = 0; p < 4; p++) bits += first.changed[p];
+        store_answers("a write made again", cpu_write(&g, s, address, 1, byte), IDDESMAR_DONE, nothing);
+    }
+    return bits;
+}
+
 /* ---- flags: 0 is clear, any other number set */
 
 /* Under odd/even a0 chooses between planes 0 and 2 and planes 1 and 3. */
@@ -422,12 +604,12 @@ static void store_flag(int flag) {
     unsigned set = flag != 0;
     s.map_mask = 15;
     for (int i = 0; i < 4; i++) planes[i][5] = 0;
-    expect("plane_set", iddesmar_seq_plane_set(s, ALL, 1, 5, (uint8_t)flag, 0x81).number, IDDESMAR_DONE);
+    one_plane("plane_set by a0", seq_store(24, s, 1, 5, (uint8_t)flag, 0x81), 1, set ? 2 : 0);
     expect("plane 1 by a0", planes[1][5], set ? 0x81 : 0);
-    expect("plane_or", iddesmar_seq_plane_or(s, ALL, 0, 5, (uint8_t)flag, 0x42).number, IDDESMAR_DONE);
+    one_plane("plane_or by a0", seq_store(26, s, 0, 5, (uint8_t)flag, 0x42), 0, set ? 0 : 2);
     expect("plane 0 by a0", planes[0][5], set ? 0 : 0x42);
     planes[3][5] = 0xFF;
-    expect("plane_and", iddesmar_seq_plane_and(s, ALL, 3, 5, (uint8_t)flag, 0x24).number, IDDESMAR_DONE);
+    one_plane("plane_and by a0", seq_store(25, s, 3, 5, (uint8_t)flag, 0x24), 3, set ? 6 : 0);
     expect("plane 3 by a0", planes[3][5], set ? 0x24 : 0xFF);
     planes[0][5] = planes[1][5] = planes[3][5] = 0;
     iddesmar_vram_deplane(ALL, 5);
@@ -450,13 +632,14 @@ static void page_flag(int flag) {
     planes[0][low.offset + 1] = 0x22;
     expect("a read by page", iddesmar_gc_cpu_read_u8(&g, s, ALL, 0xA0008, page).value, set ? 0x22 : 0x11);
     expect("a peek by page", iddesmar_gc_cpu_peek_u8(g, s, ALL, 0xA0008, page).value, set ? 0x22 : 0x11);
-    expect("a write", iddesmar_gc_cpu_write_u8(&g, s, ALL, 0xA0008, page, 0x33).number, IDDESMAR_DONE);
+    expect("a write by page", cpu_write(&g, s, 0xA0008, page, 0x33).number, IDDESMAR_DONE);
     expect("a byte of the low page", planes[0][low.offset], set ? 0x11 : 0x33);
     expect("a byte of the high page", planes[0][low.offset + 1], set ? 0x33 : 0x22);
 }
 
 static int layout(void) {
     static guarded g;
+    unsigned bits = 0;
     for (int i = 0; i < 32; i++) g.before[i] = g.after[i] = 0xEE;
     g.gc = iddesmar_gc_new();
     controller_registers(&g);
@@ -464,13 +647,20 @@ static int layout(void) {
     for (int i = 0; i < 32; i++) expect("a byte beside the record", g.before[i] + g.after[i], 2 * 0xEE);
     sequencer_fields();
     unknown_registers();
+    for (unsigned k = 0; k <= 8; k++) {
+        for (size_t plane = 0; plane < 4; plane++) direct_numbers(plane, k);
+    }
+    chained_numbers();
+    cpu_numbers();
     for (int seed = 0; seed < 256; seed++) {
         refusals(seed);
         acceptances(seed);
+        bits += writes_again(seed);
         store_flag(seed);
         page_flag(seed);
     }
-    if (!wrong) printf("layout: the library has each field where C has it, and a refused call leaves every byte but the count of accesses turned away\n");
+    expect("whether any write changed a bit", bits != 0, 1);
+    if (!wrong) printf("layout: the library has each field where C has it, a refused call leaves every byte but the count of accesses turned away, and a store tells the bits it changed\n");
     return wrong != 0;
 }
 
@@ -483,6 +673,7 @@ int main(int argc, char **argv) {
         gc = iddesmar_gc_new();
         seq = iddesmar_seq_new();
         list();
+        status = wrong != 0;
     }
     fflush(0);
     return status;

@@ -1,4 +1,5 @@
 //! A host in Rust, by the safe calls of iddesmar.rs alone: runs the list of calls on standard input as `replay` does, and prints the same lines.
+//! What each store says that it changed is held to a count made here, from the planes before and after it.
 //! It starts without Rust's own start, which the kit's emulator cannot carry out.
 #![no_main]
 #![deny(unsafe_code)]
@@ -13,6 +14,8 @@ use std::io::{BufRead, BufWriter, Write};
 struct Host<'a> {
     gc: GraphicsController,
     seq: Sequencer<&'a mut [u8]>,
+    /// Stores that told other numbers than are counted here.
+    miscounted: usize,
 }
 
 fn value<T: Into<u64>>(answer: Result<T, Refusal>) -> String {
@@ -33,6 +36,11 @@ fn shown(answer: Result<[u8; 8], Refusal>) -> String {
     }
 }
 
+fn stored(answer: Result<[u8; 4], Refusal>) -> String {
+    let [a, b, c, d] = answer.unwrap_or([0; 4]);
+    format!("{} {a} {b} {c} {d}", answer.map_or_else(Refusal::number, |_| 0))
+}
+
 fn mapped(answer: Result<(usize, bool), Refusal>) -> String {
     match answer {
         Ok((offset, a0)) => format!("0 {offset} {}", u8::from(a0)),
@@ -49,6 +57,19 @@ fn sum(bytes: &[u8]) -> [u32; 2] {
         let first = first.wrapping_add(u32::from(*byte));
         [first, second.wrapping_add(first)]
     })
+}
+
+/// The four planes' bytes at an offset; zeros past the planes, where every store is refused.
+fn column<B: AsRef<[u8]> + AsMut<[u8]>>(vram: &Vram<B>, offset: usize) -> [u8; 4] {
+    [0, 1, 2, 3].map(|plane| vram.plane(plane).ok().and_then(|bytes| bytes.get(offset)).copied().unwrap_or(0))
+}
+
+/// A store's answer beside the bytes before it and after it; a refused one leaves them.
+fn tells(answer: Result<[u8; 4], Refusal>, before: [u8; 4], after: [u8; 4]) -> bool {
+    match answer {
+        Ok(changed) => (0..4).all(|plane| u32::from(changed[plane]) == (before[plane] ^ after[plane]).count_ones()),
+        Err(_) => before == after,
+    }
 }
 
 impl Host<'_> {
@@ -78,10 +99,6 @@ impl Host<'_> {
             3 => value(vram.read_glyph(x[0])),
             4 => value(vram.read_linear(x[0])),
             5 => shown(vram.serialize_linear(x[0])),
-            6 => done(vram.write_u8(x[0], x[1], x[2] as u8)),
-            7 => done(vram.plane_set(x[0], x[1], x[2] as u8)),
-            8 => done(vram.plane_and(x[0], x[1], x[2] as u8)),
-            9 => done(vram.plane_or(x[0], x[1], x[2] as u8)),
             _ => done(vram.deplane(x[0])),
         }
     }
@@ -104,15 +121,12 @@ impl Host<'_> {
             20 => value(seq.peek_u8(x[0], x[1], a0)),
             21 => value(seq.gc_read_u8(x[0], x[1], a0)),
             22 => value(seq.read_linear(x[0])),
-            23 => shown(seq.serialize_linear(x[0])),
-            24 => done(seq.plane_set(x[0], x[1], a0, x[3] as u8)),
-            25 => done(seq.plane_and(x[0], x[1], a0, x[3] as u8)),
-            _ => done(seq.plane_or(x[0], x[1], a0, x[3] as u8)),
+            _ => shown(seq.serialize_linear(x[0])),
         }
     }
 
     fn controller_call(&mut self, operation: usize, x: &[usize; 4]) -> String {
-        let (gc, seq) = (&mut self.gc, &mut self.seq);
+        let (gc, seq) = (&mut self.gc, &self.seq);
         match operation {
             27 => {
                 gc.reset();
@@ -130,14 +144,45 @@ impl Host<'_> {
             37 => mapped(gc.map_address(x[0], page(x[1]))),
             38 => value(gc.cpu_read_u8(seq, x[0], page(x[1]))),
             39 => value(gc.cpu_peek_u8(seq, x[0], page(x[1]))),
-            40 => done(gc.cpu_write_u8(seq, x[0], page(x[1]), x[2] as u8)),
             _ => shown(gc.serialize(seq, x[0])),
         }
+    }
+
+    fn store(&mut self, operation: usize, x: &[usize; 4]) -> Result<[u8; 4], Refusal> {
+        let (gc, seq, a0) = (&mut self.gc, &mut self.seq, x[2] != 0);
+        match operation {
+            6 => seq.vram.write_u8(x[0], x[1], x[2] as u8),
+            7 => seq.vram.plane_set(x[0], x[1], x[2] as u8),
+            8 => seq.vram.plane_and(x[0], x[1], x[2] as u8),
+            9 => seq.vram.plane_or(x[0], x[1], x[2] as u8),
+            24 => seq.plane_set(x[0], x[1], a0, x[3] as u8),
+            25 => seq.plane_and(x[0], x[1], a0, x[3] as u8),
+            26 => seq.plane_or(x[0], x[1], a0, x[3] as u8),
+            _ => gc.cpu_write_u8(seq, x[0], page(x[1]), x[2] as u8),
+        }
+    }
+
+    /// The offset that a store stores at, past the planes where its address leads nowhere; the sequencer clears the low two bits under chain-four.
+    fn stored_at(&self, operation: usize, x: &[usize; 4]) -> usize {
+        let offset = match operation {
+            40 => self.gc.map_address(x[0], page(x[1])).map_or(usize::MAX, |(offset, _)| offset),
+            _ => x[1],
+        };
+        if operation > 9 && self.seq.record().memory_mode & 8 != 0 { offset / 4 * 4 } else { offset }
+    }
+
+    fn store_call(&mut self, operation: usize, x: &[usize; 4]) -> String {
+        let at = self.stored_at(operation, x);
+        let before = column(&self.seq.vram, at);
+        let answer = self.store(operation, x);
+        self.miscounted += usize::from(!tells(answer, before, column(&self.seq.vram, at)));
+        stored(answer)
     }
 
     fn call(&mut self, operation: usize, x: &[usize; 4]) -> String {
         match operation {
             0 => self.digest(),
+            6..=9 | 24..=26 | 40 => self.store_call(operation, x),
             1..=10 => self.vram_call(operation, x),
             11..=26 => self.sequencer_call(operation, x),
             _ => self.controller_call(operation, x),
@@ -158,6 +203,7 @@ fn refusals() -> bool {
             && gc.cpu_read_u8(&seq, 0xA0000, PageSelect::LowPage) == Err(Refusal::Memory)
             && gc.serialize(&seq, 0) == Err(Refusal::Memory)
             && seq.plane_set(0, usize::MAX, false, 1) == Err(Refusal::Memory)
+            && seq.vram.write_u8(0, 0, 1) == Err(Refusal::Memory)
             && seq.vram.read_u8(usize::MAX, usize::MAX) == Err(Refusal::Memory)
     })
 }
@@ -177,6 +223,25 @@ fn turned_away() -> bool {
     let counted = gc.record().stats.refused_accesses == 4 && iddesmar::GraphicsControllerStats { refused_accesses: 0, ..gc.record().stats } == fresh.stats;
     gc.reset();
     refused && counted && *gc.record() == fresh
+}
+
+/// The four numbers stand in the planes' order. Each direct store tells its own plane's, a write of the processor all four; made again, a store changes nothing.
+fn bits_told() -> bool {
+    let (mut gc, mut seq) = (GraphicsController::new(), Sequencer::new());
+    let open = seq.write_address(2).is_ok() && seq.write_data(15).is_ok() && seq.write_address(4).is_ok() && seq.write_data(4).is_ok();
+    let whole = gc.write_address(8).is_ok() && gc.write_data(0xFF).is_ok();
+    let direct = [
+        seq.vram.write_u8(0, 9, 0x10) == Ok([1, 0, 0, 0]),
+        seq.vram.plane_set(1, 9, 0x81) == Ok([0, 2, 0, 0]),
+        seq.vram.plane_or(2, 9, 0x6F) == Ok([0, 0, 6, 0]),
+        seq.vram.plane_and(2, 9, 0x6C) == Ok([0, 0, 2, 0]),
+        seq.plane_set(3, 9, false, 0xFF) == Ok([0, 0, 0, 8]),
+        seq.plane_and(3, 9, false, 0x7E) == Ok([0, 0, 0, 2]),
+        seq.plane_or(3, 9, false, 0xFE) == Ok([0, 0, 0, 1]),
+        seq.plane_or(3, 9, false, 0xFE) == Ok([0; 4]),
+    ];
+    let mut cleared = || gc.cpu_write_u8(&mut seq, 0xA0009, PageSelect::LowPage, 0);
+    open && whole && direct == [true; 8] && cleared() == Ok([1, 2, 4, 7]) && cleared() == Ok([0; 4])
 }
 
 /// The memory of a sequencer, copied.
@@ -215,10 +280,12 @@ fn unknown() -> bool {
     let (mut gc, mut seq) = (GraphicsController::new(), Sequencer::new());
     let (fresh, fresh_seq) = (*gc.record(), *seq.record());
     gc = GraphicsController::from_record(iddesmar::ControllerRecord { register_selected: 9, ..fresh });
-    let refused = gc.write_data(5) == Err(Refusal::State) && gc.memory_map() == Err(Refusal::State) && gc.record().register_selected == 9;
+    let stopped = gc.cpu_write_u8(&mut seq, 0xA0000, PageSelect::LowPage, 5) == Err(Refusal::State);
+    let refused = stopped && gc.write_data(5) == Err(Refusal::State) && gc.memory_map() == Err(Refusal::State) && gc.record().register_selected == 9;
     gc.reset();
     seq = Sequencer::from_record(iddesmar::SequencerRecord { register_selected: 6, ..fresh_seq }, seq.vram);
-    let refused_too = seq.clock() == Err(Refusal::State) && gc.cpu_read_u8(&seq, 0xA0000, PageSelect::LowPage) == Err(Refusal::State);
+    let stopped_too = gc.cpu_write_u8(&mut seq, 0xA0000, PageSelect::LowPage, 5) == Err(Refusal::State) && seq.plane_set(0, 0, false, 5) == Err(Refusal::State);
+    let refused_too = stopped_too && seq.clock() == Err(Refusal::State) && gc.cpu_read_u8(&seq, 0xA0000, PageSelect::LowPage) == Err(Refusal::State);
     seq.reset();
     let no_plane = seq.vram.plane(3).map(<[u8]>::len) == Ok(65536) && seq.vram.plane(4) == Err(Refusal::Plane) && seq.vram.plane(usize::MAX) == Err(Refusal::Plane);
     refused && refused_too && no_plane && *gc.record() == fresh && *seq.record() == fresh_seq
@@ -227,7 +294,7 @@ fn unknown() -> bool {
 fn run() -> i32 {
     let mut lengths = [65536, 65536, 65536, 65536, 524288].map(|n| vec![0u8; n]);
     let [p0, p1, p2, p3, picture] = lengths.each_mut().map(Vec::as_mut_slice);
-    let mut host = Host { gc: GraphicsController::new(), seq: Sequencer::over(Vram::over([p0, p1, p2, p3], picture)) };
+    let mut host = Host { gc: GraphicsController::new(), seq: Sequencer::over(Vram::over([p0, p1, p2, p3], picture)), miscounted: 0 };
     let mut out = BufWriter::new(std::io::stdout());
     let mut line_number = 0;
     for line in std::io::stdin().lock().lines() {
@@ -240,7 +307,14 @@ fn run() -> i32 {
         writeln!(out, "{line_number} {operation} {}", host.call(*operation, &x)).expect("a line out");
     }
     out.flush().expect("lines out");
-    let tried = [("refusals", refusals()), ("accesses turned away", turned_away()), ("a saved state restored", round_trip(&mut host)), ("unknown records and planes", unknown())];
+    let tried = [
+        ("refusals", refusals()),
+        ("accesses turned away", turned_away()),
+        ("bits that known stores change", bits_told()),
+        ("bits that the list's stores changed", host.miscounted == 0),
+        ("a saved state restored", round_trip(&mut host)),
+        ("unknown records and planes", unknown()),
+    ];
     for (what, _) in tried.iter().filter(|(_, holds)| !holds) {
         eprintln!("test-rust: {what}: not as it should be");
     }

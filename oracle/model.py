@@ -1,6 +1,7 @@
 #!/usr/bin/env python3
-"""Document 01 once more, bit by bit, with write mode 3 as K1 has it, reads under chain-four as K4 has them and accesses turned away counted as K8 asks:
-reads a list of calls on standard input and prints a line for each, as oracle/README.md says. It shares no text with the port; oracle/make-cases makes the expected lines of the lists of cases with it.
+"""Document 01 once more, bit by bit, with write mode 3 as K1 has it, reads under chain-four as K4 has them, stores that tell how many bits changed as K6 asks
+and accesses turned away counted as K8 asks: reads a list of calls on standard input and prints a line for each, as oracle/README.md says. It shares no text with the port;
+oracle/make-cases makes the expected lines of the lists of cases with it.
 
     oracle/model.py < LIST      takes no argument"""
 import re
@@ -22,6 +23,8 @@ CGA, CHAIN4 = 1, 2
 # set, and, or
 STORES = [lambda old, byte: byte, lambda old, byte: old & byte, lambda old, byte: old | byte]
 GC_START, SEQ_START = [0] * 22, [0] * 8 + [1, 9]
+# operations whose value is more than one number: map_address and the stores
+MAP_ADDRESS, PLANE_STORES = 37, (6, 7, 8, 9, 24, 25, 26, 40)
 
 
 class Refused(Exception):
@@ -82,13 +85,18 @@ class Model:
         for i in range(8):
             self.memory[4][8 * offset + i] = sum(bit(self.memory[p][offset], 7 - i) << p for p in range(4))
 
-    def store(self, plane, offset, byte):
-        self.memory[plane][offset] = byte
-        self.remake(offset)
+    def store(self, offset, new):
+        """Bytes for some planes; how many of the eight bits of each plane are not what they were, 0 where it gets no byte."""
+        changed = [0] * 4
+        for plane, byte in new.items():
+            old, self.memory[plane][offset] = self.memory[plane][offset], byte
+            changed[plane] = sum(bit(old, i) != bit(self.memory[plane][offset], i) for i in range(8))
+            self.remake(offset)
+        return changed
 
     def vram_store(self, how, plane, offset, byte):
         self.judge_plane(plane, offset)
-        self.store(plane, offset, STORES[how](self.memory[plane][offset], byte % 256))
+        return self.store(offset, {plane: STORES[how](self.memory[plane][offset], byte % 256)})
 
     def deplane(self, offset):
         self.judge_memory()
@@ -144,9 +152,9 @@ class Model:
     def seq_store(self, how, plane, offset, a0, byte):
         self.judge_seq()
         self.judge_plane(plane, offset)
-        if self.masked(plane, offset, int(a0 == 1)):
-            at = offset - offset % 4 if self.chain_four() else offset
-            self.store(plane, at, STORES[how](self.memory[plane][at], byte % 256))
+        at = offset - offset % 4 if self.chain_four() else offset
+        new = STORES[how](self.memory[plane][at], byte % 256)
+        return self.store(at, {plane: new} if self.masked(plane, offset, int(a0 == 1)) else {})
 
     # the controller's ports
     def gc_field(self, field):
@@ -226,9 +234,7 @@ class Model:
         self.count(mode)
         visited = [a0, 2 + a0] if bit(self.gc[MODE], 4) else range(4)
         at = offset - offset % 4 if self.chain_four() else offset
-        for plane in visited:
-            if self.masked(plane, offset, a0):
-                self.store(plane, at, self.written(mode, plane, byte % 256))
+        return self.store(at, {plane: self.written(mode, plane, byte % 256) for plane in visited if self.masked(plane, offset, a0)})
 
     def written(self, mode, plane, byte):
         """The byte that a plane gets."""
@@ -298,12 +304,16 @@ def operations(m):
     ]
 
 
-def line(call, arguments, refused_value):
+def refused_value(operation):
+    return "0 0" if operation == MAP_ADDRESS else "0 0 0 0" if operation in PLANE_STORES else "0"
+
+
+def line(call, arguments, operation):
     """The answer and the value of a call, as text."""
     try:
         value = call(*arguments) or 0
     except Refused as refused:
-        return f"{refused.args[0]} {refused_value}"
+        return f"{refused.args[0]} {refused_value(operation)}"
     return "0 " + (" ".join(map(str, value)) if isinstance(value, (list, tuple)) else str(value))
 
 
@@ -327,7 +337,7 @@ def main():
             print(number, operation, word)
             continue
         call, count = calls[operation]
-        print(number, operation, line(call, (arguments + [0] * 4)[:count], "0 0" if operation == 37 else "0"))
+        print(number, operation, line(call, (arguments + [0] * 4)[:count], operation))
 
 
 main()

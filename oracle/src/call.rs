@@ -84,6 +84,11 @@ impl Call {
         OPERATIONS[self.operation].0
     }
 
+    /// Whether the call stores into planes: its value is a number for each of them.
+    pub fn stores(&self) -> bool {
+        matches!(self.operation, VRAM_WRITE_U8..=VRAM_PLANE_OR | SEQ_PLANE_SET..=SEQ_PLANE_OR | GC_CPU_WRITE_U8)
+    }
+
     /// The arguments that the operation has.
     pub fn given(&self) -> &[usize] {
         &self.arguments[..OPERATIONS[self.operation].1.len()]

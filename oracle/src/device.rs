@@ -1,7 +1,7 @@
 //! The Rust's graphics controller and sequencer, called by number.
 
 use crate::call::*;
-use crate::mode_3;
+use crate::{changed, mode_3};
 use marty_core::devices::vga::graphics_controller::GraphicsController;
 use marty_core::devices::vga::sequencer::Sequencer;
 use marty_core::devices::vga::PageSelect;
@@ -10,6 +10,7 @@ use marty_core::devices::vga::PageSelect;
 pub enum Value {
     One(u64),
     Two(usize, usize),
+    Four([u32; 4]),
     Pixels([u8; 8]),
 }
 
@@ -18,6 +19,7 @@ impl std::fmt::Display for Value {
         match self {
             Value::One(number) => write!(f, "{number}"),
             Value::Two(first, second) => write!(f, "{first} {second}"),
+            Value::Four([a, b, c, d]) => write!(f, "{a} {b} {c} {d}"),
             Value::Pixels(pixels) => pixels.iter().try_for_each(|pixel| write!(f, "{:X}", pixel & 15)),
         }
     }
@@ -39,13 +41,28 @@ impl Device {
     }
 
     pub fn perform(&mut self, call: &Call) -> Answer {
-        let answer = self.answered(call);
+        let answer = if call.stores() { self.stored(call) } else { self.answered(call) };
         match (call.operation, answer.0) {
             (GC_RESET, _) => self.refused_accesses = 0,
             (GC_CPU_READ_U8 | GC_CPU_WRITE_U8, 2) => self.refused_accesses = self.refused_accesses.wrapping_add(1),
             _ => {}
         }
         answer
+    }
+
+    /// The Rust's store, and how many bits of each plane it changed.
+    fn stored(&mut self, call: &Call) -> Answer {
+        let offset = self.store_offset(call);
+        let before = changed::around(&self.seq, offset);
+        let (number, _) = self.answered(call);
+        (number, Value::Four(changed::bits(before, changed::around(&self.seq, offset))))
+    }
+
+    /// The offset of a store: the one given, or where the Rust maps the address. Outside the window nothing is stored, and 0 will do.
+    fn store_offset(&self, call: &Call) -> usize {
+        let [address, page, ..] = call.arguments;
+        let mapped = || self.gc.map_address(address, page_of(page)).map_or(0, |(offset, _)| offset);
+        call.argument(Argument::Offset).unwrap_or_else(mapped)
     }
 
     /// What the Rust answers.

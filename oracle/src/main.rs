@@ -1,6 +1,7 @@
 //! The oracle: the Rust, run on lists of calls. `oracle/README.md` has the format of lists and lines.
 
 mod call;
+mod changed;
 mod compare;
 mod device;
 mod digest;

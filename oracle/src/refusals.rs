@@ -28,10 +28,11 @@ fn shows(call: &Call) -> bool {
     matches!(call.operation, VRAM_SERIALIZE_LINEAR | SEQ_SERIALIZE_LINEAR | GC_SERIALIZE)
 }
 
-/// The value of a refused call: 0, and for `map_address` both numbers 0.
+/// The value of a refused call: 0, for `map_address` both numbers 0, for a store all four.
 pub fn refused_value(call: &Call) -> &'static str {
     match call.operation {
         GC_MAP_ADDRESS => "0 0",
+        _ if call.stores() => "0 0 0 0",
         _ => "0",
     }
 }

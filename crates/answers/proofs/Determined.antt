@@ -14,8 +14,6 @@ use Rattle.answers.proofs.narrow.refused.Reads as refused
 use Rattle.answers.proofs.narrow.refused.Kinds as refused-kinds
 use Rattle.answers.proofs.narrow.of_byte.Reads as of-byte
 use Rattle.answers.proofs.narrow.of_byte.Kinds as of-byte-kinds
-use Rattle.answers.proofs.narrow.of_store.Reads as of-store
-use Rattle.answers.proofs.narrow.of_store.Kinds as of-store-kinds
 use Rattle.answers.proofs.narrow.of_done.Reads as of-done
 use Rattle.answers.proofs.narrow.of_done.Kinds as of-done-kinds
 use Rattle.answers.proofs.narrow.of_flag.Reads as of-flag
@@ -36,6 +34,10 @@ use Rattle.answers.proofs.wide.unknown_shown.Reads as unknown-shown
 use Rattle.answers.proofs.wide.unknown_shown.Kinds as unknown-shown-kinds
 use Rattle.answers.proofs.wide.of_part.Reads as of-part
 use Rattle.answers.proofs.wide.of_part.Kinds as of-part-kinds
+use Rattle.answers.proofs.wide.unknown_stored.Reads as unknown-stored
+use Rattle.answers.proofs.wide.unknown_stored.Kinds as unknown-stored-kinds
+use Rattle.answers.proofs.wide.of_store.Reads as of-store
+use Rattle.answers.proofs.wide.of_store.Kinds as of-store-kinds
 
 -- ---- a byte
 
@@ -58,10 +60,6 @@ module _ (κs : Lfts 0) (a : Dens κs refused-kinds.ps) where
 module _ (κs : Lfts 0) (a : Dens κs of-byte-kinds.ps) where
   pub of-byte-determined : OneAnswer (of-byte.Post κs a)
   of-byte-determined r r′ e e′ p q = answer-is r r′ (p ∙ sym q)
-
-module _ (κs : Lfts 0) (a : Dens κs of-store-kinds.ps) where
-  pub of-store-determined : OneAnswer (of-store.Post κs a)
-  of-store-determined r r′ e e′ p q = answer-is r r′ (p ∙ sym q)
 
 module _ (κs : Lfts 0) (a : Dens κs of-done-kinds.ps) where
   pub of-done-determined : OneAnswer (of-done.Post κs a)
@@ -106,3 +104,11 @@ module _ (κs : Lfts 0) (a : Dens κs unknown-shown-kinds.ps) where
 module _ (κs : Lfts 1) (a : Dens κs of-part-kinds.ps) where
   pub of-part-determined : OneAnswer (of-part.Post κs a)
   of-part-determined r r′ e e′ p q = p ∙ sym q
+
+module _ (κs : Lfts 0) (a : Dens κs unknown-stored-kinds.ps) where
+  pub unknown-stored-determined : OneAnswer (unknown-stored.Post κs a)
+  unknown-stored-determined r r′ e e′ p q = p ∙ sym q
+
+module _ (κs : Lfts 0) (a : Dens κs of-store-kinds.ps) where
+  pub of-store-determined : OneAnswer (of-store.Post κs a)
+  of-store-determined r r′ e e′ p q = p ∙ sym q

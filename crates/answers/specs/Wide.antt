@@ -1,13 +1,15 @@
--- What the answers of wider values say, and a show's answer by value.
+-- What the answers of wider values say, and the answers of a show and of a store by value.
 use Prim.Native.Nat.{ℕ}
+use mathlib.Core.Path.{_≡_}
 use mathlib.Core.List.{List, [], _∷_}
 use lib.Dec.{eqb}
 use lib.ListN.{length}
 use Rattle.bits.specs.Bit.{pick}
-use Rattle.machine.specs.Answers.{one, two, pixelsOf, Said, said}
+use Rattle.machine.specs.Answers.{Value, one, two, pixel, part, changes, pixelsOf, Said, said, Outcome}
 use Rattle.answers.specs.declared.wide.Clock.{Clock}
 use Rattle.answers.specs.declared.wide.Mapped.{Mapped}
 use Rattle.answers.specs.declared.wide.Shown.{Shown}
+use Rattle.answers.specs.declared.wide.Stored.{Stored}
 
 -- the character clock
 abbrev pub clockAnswerSaid : Clock → Said
@@ -24,3 +26,19 @@ eightOf l = pick (eqb (length l) 8) l (0 ∷ 0 ∷ 0 ∷ 0 ∷ 0 ∷ 0 ∷ 0 ∷
 -- a show's answer by value
 abbrev pub shownOf : Said → Shown
 shownOf s = record { number = s .number; pixels = eightOf (pixelsOf (s .value)) }
+
+-- the four numbers of a store, plane 0 first; no other value has any
+abbrev pub fourOf : Value → List ℕ
+fourOf (one x) = 0 ∷ 0 ∷ 0 ∷ 0 ∷ []
+fourOf (two x y) = 0 ∷ 0 ∷ 0 ∷ 0 ∷ []
+fourOf (pixel x) = 0 ∷ 0 ∷ 0 ∷ 0 ∷ []
+fourOf (part l) = 0 ∷ 0 ∷ 0 ∷ 0 ∷ []
+fourOf (changes a b c d) = a ∷ b ∷ c ∷ d ∷ []
+
+-- a store's answer by value
+abbrev pub storedOf : Said → Stored
+storedOf s = record { changed = fourOf (s .value); number = s .number }
+
+-- a store's answer by value and what it leaves are an outcome's
+abbrev pub StoredAs : {S : Type 0} → Stored → S → Outcome S → Type 0
+StoredAs r s o = (r ≡ storedOf (o .answer)) × (s ≡ o .next)

@@ -1,12 +1,11 @@
 // Answers whose value is a byte: what was read, a pixel, a mark, nothing.
 ghost use mathlib.Core.Path.{_≡_};
-ghost use Rattle.machine.specs.Answers.{refusalNumber, byteSaid, pixelSaid, storeSaid, doneSaid, flagSaid};
+ghost use Rattle.machine.specs.Answers.{refusalNumber, byteSaid, pixelSaid, doneSaid, flagSaid};
 ghost use Rattle.answers.specs.Answers.{answerSaid, pixelAnswerSaid, answerOf};
 use machine_types::ByteAnswer;
 use machine_types::DoneAnswer;
 use machine_types::FlagAnswer;
 use machine_types::Refusal;
-use machine_types::StoreAnswer;
 
 // A byte, a mark, an enum's place in its order; 0 where a call hands nothing back.
 #[repr(C)]
@@ -55,15 +54,6 @@ pub fn of_pixel(answer: ByteAnswer) -> Answer
     match answer {
         ByteAnswer::Done(byte) => given(0, byte),
         ByteAnswer::Refused(x) => refused(x),
-    }
-}
-
-pub fn of_store(answer: StoreAnswer) -> Answer
-    ensures { λ r. ⌜ answerSaid r ≡ storeSaid answer ⌝ }
-{
-    match answer {
-        StoreAnswer::Done => done(),
-        StoreAnswer::Refused(x) => refused(x),
     }
 }
 

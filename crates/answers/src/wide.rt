@@ -1,11 +1,12 @@
-// Answers whose value is wider than a byte: a clock, where an address leads, eight pixels.
+// Answers whose value is wider than a byte: a clock, where an address leads, eight pixels, how much a store changed.
 ghost use mathlib.Core.Path.{_≡_};
 ghost use mathlib.Core.List.{[]};
-ghost use Rattle.machine.specs.Answers.{clockSaid, mappedSaid, partSaid};
-ghost use Rattle.answers.specs.Wide.{clockAnswerSaid, mappedAnswerSaid, shownOf};
+ghost use Rattle.machine.specs.Answers.{changes, said, clockSaid, mappedSaid, partSaid, storeSaid};
+ghost use Rattle.answers.specs.Wide.{clockAnswerSaid, mappedAnswerSaid, shownOf, storedOf};
 use machine_types::ClockAnswer;
 use machine_types::MappedAnswer;
 use machine_types::Refusal;
+use machine_types::StoreAnswer;
 
 // The character clock.
 #[repr(C)]
@@ -26,6 +27,13 @@ pub struct Mapped {
 #[repr(C)]
 pub struct Shown {
     pub pixels: [u8; 8],
+    pub number: u8,
+}
+
+// How many bits of each plane's byte a store changed; four zeros where refused.
+#[repr(C)]
+pub struct Stored {
+    pub changed: [u8; 4],
     pub number: u8,
 }
 
@@ -91,4 +99,28 @@ pub fn of_part(number: u8, part: &[u8]) -> Shown
         part[7],
     ];
     Shown { number, pixels }
+}
+
+pub fn unknown_stored() -> Stored
+    ensures { λ r. ⌜ r ≡ storedOf (said 6 (changes 0 0 0 0)) ⌝ }
+{
+    Stored {
+        changed: [0u8; 4],
+        number: fields::refusal_number(Refusal::State),
+    }
+}
+
+pub fn of_store(answer: StoreAnswer) -> Stored
+    ensures { λ r. ⌜ r ≡ storedOf (storeSaid answer) ⌝ }
+{
+    match answer {
+        StoreAnswer::Done(x) => Stored {
+            changed: [x.p0, x.p1, x.p2, x.p3],
+            number: 0,
+        },
+        StoreAnswer::Refused(x) => Stored {
+            changed: [0u8; 4],
+            number: fields::refusal_number(x),
+        },
+    }
 }

@@ -16,6 +16,11 @@ unfoldable pub ofBits : ℕ → (ℕ → ℕ) → ℕ
 ofBits zero f = 0
 ofBits (suc n) f = f 0 + 2 * ofBits n (λ i. f (suc i))
 
+-- f 0, f 1 and so on, n of them, added
+unfoldable pub sumOf : ℕ → (ℕ → ℕ) → ℕ
+sumOf zero f = 0
+sumOf (suc n) f = f 0 + sumOf n (λ i. f (suc i))
+
 -- the byte whose bit i is f i
 abbrev pub byteOf : (ℕ → ℕ) → ℕ
 byteOf f = ofBits 8 f

@@ -21,12 +21,12 @@ use Rattle.machine_types.specs.declared.gc.ReadMode.the-variants.{ReadSelectedP
 use Rattle.machine_types.specs.declared.seq.Sequencer.{Sequencer}
 use Rattle.machine_types.specs.declared.shape.Shape.{Shape}
 use Rattle.machine.specs.Memory.{Memory, shape, sound}
-use Rattle.machine.specs.Answers.{refusalNumber, Value, one, two, blank, Said, said, part, Outcome, outcome, answered, mappedSaid}
+use Rattle.machine.specs.Answers.{refusalNumber, Value, one, two, part, changes, changesOf, blank, Said, said, Outcome, outcome, answered, mappedSaid}
 use Rattle.machine.specs.Graphics.{fitsGc, memoryMap, chained, oddEven, isOddEven, readMode, writeMode, shiftMode, gcOf}
 use Rattle.machine.specs.Sequencer.{fitsSeq, chainFour, storedAt, answersFrom}
 use Rattle.machine.specs.Address.{inWindow, a0, mapped, offset}
 use Rattle.machine.specs.DataPath.{mapSelected, selectedPlane, peekedPlane}
-use Rattle.machine.specs.Deeds.{byte, latch, loaded, latchesAfter, memoryAfter, valueOf}
+use Rattle.machine.specs.Deeds.{byte, latch, loaded, changedAt, latchesAfter, memoryAfter, valueOf}
 use Rattle.machine.specs.Calls.{refuse, fitsBoth, accessNumber, shows, showNumber, readReply, writeDeed, cpuPlan, cpuRead, cpuPeek, cpuWrite, serialize}
 use Rattle.machine.specs.Calls.{CpuPlan, readCounter, writeCounter, refusedCounter, noCounter, refusalCounter, counted}
 use Rattle.machine.specs.Step.{device, lifted, cpuRefused, cpuPerform, cpuStep}
@@ -104,13 +104,13 @@ show-accepted r s m o e =
 -- ---- a plan carried out
 
 module _ (a : CpuPlan) (g : GraphicsController) (m : Memory) where
-  pub cpu-refused : (k : ℕ) (v : Value) → 0 < k → k ≡ a .ask .number → v ≡ blank (valueOf (a .ask .reply) (latchesAfter (a .ask .deed) (g .latches) m) (memoryAfter (a .ask .deed) (g .latches) m))
+  pub cpu-refused : (k : ℕ) (v : Value) → 0 < k → k ≡ a .ask .number → v ≡ blank (valueOf (a .ask .reply) m (latchesAfter (a .ask .deed) (g .latches) m) (memoryAfter (a .ask .deed) (g .latches) m))
       → outcome (said k v) (cpuRefused a g m) ≡ cpuPerform a g m
   cpu-refused k v h e f = answered-refused k (a .ask .number) _ v _ (cpuRefused a g m) h e f
 
   -- of a call that names no counter for its refusals
   pub cpu-uncounted : (k : ℕ) (v : Value) → a .turnedAway ≡ noCounter → 0 < k → k ≡ a .ask .number
-      → v ≡ blank (valueOf (a .ask .reply) (latchesAfter (a .ask .deed) (g .latches) m) (memoryAfter (a .ask .deed) (g .latches) m))
+      → v ≡ blank (valueOf (a .ask .reply) m (latchesAfter (a .ask .deed) (g .latches) m) (memoryAfter (a .ask .deed) (g .latches) m))
       → outcome (said k v) (device g m) ≡ cpuPerform a g m
   cpu-uncounted k v t h e f = ap (outcome (said k v)) kept ∙ cpu-refused k v h e f
     where
@@ -120,7 +120,7 @@ module _ (a : CpuPlan) (g : GraphicsController) (m : Memory) where
   pub cpu-done : (g′ : GraphicsController) (m′ : Memory) (v : Value) → 0 ≡ a .ask .number
       → g′ ≡ gcOf (g .registers) (counted (a .counter) (g .stats)) (latchesAfter (a .ask .deed) (g .latches) m)
       → m′ ≡ memoryAfter (a .ask .deed) (g .latches) m
-      → v ≡ valueOf (a .ask .reply) (latchesAfter (a .ask .deed) (g .latches) m) (memoryAfter (a .ask .deed) (g .latches) m)
+      → v ≡ valueOf (a .ask .reply) m (latchesAfter (a .ask .deed) (g .latches) m) (memoryAfter (a .ask .deed) (g .latches) m)
       → outcome (said 0 v) (device g′ m′) ≡ cpuPerform a g m
   cpu-done g′ m′ v e eg em ev = rw (eg, em, ev, ← e)
 
@@ -162,16 +162,16 @@ loaded-at m o (suc (suc (suc (suc p)))) h = absurd (omega arith)
 
 -- from the latches just loaded the answer is the machine's
 pub read-value : (w : ReadMode) (r : GraphicsRegisters) (s : Sequencer) (m : Memory) (o x : ℕ) → r .«read_map_select» ≤ 3
-    → one (readByte w r s x o (loaded m (storedAt s o))) ≡ valueOf (readReply w r s x o) (loaded m (storedAt s o)) m
+    → one (readByte w r s x o (loaded m (storedAt s o))) ≡ valueOf (readReply w r s x o) m (loaded m (storedAt s o)) m
 unfolding readByte readReply valueOf
 read-value ReadSelectedPlane r s m o x h = ap one (loaded-at m (storedAt s o) (selectedPlane r s x o) (select-small r s x o h))
 read-value ReadComparedPlanes r s m o x h = refl
 
 -- a refused read answers 0
-pub read-blank : (w : ReadMode) (r : GraphicsRegisters) (s : Sequencer) (x o : ℕ) (l : List ℕ) (m : Memory) → one 0 ≡ blank (valueOf (readReply w r s x o) l m)
+pub read-blank : (w : ReadMode) (r : GraphicsRegisters) (s : Sequencer) (x o : ℕ) (was : Memory) (l : List ℕ) (m : Memory) → one 0 ≡ blank (valueOf (readReply w r s x o) was l m)
 unfolding readReply valueOf
-read-blank ReadSelectedPlane r s x o l m = refl
-read-blank ReadComparedPlanes r s x o l m = refl
+read-blank ReadSelectedPlane r s x o was l m = refl
+read-blank ReadComparedPlanes r s x o was l m = refl
 
 -- ---- the four calls
 
@@ -186,14 +186,14 @@ module _ (g : GraphicsController) (s : Sequencer) (m : Memory) (x : ℕ) (page :
   abbrev leftBy : ℕ → GraphicsController
   leftBy k = gcOf (g .registers) (counted (refusalCounter k refusedCounter) (g .stats)) (g .latches)
 
-  refused-left : (k : ℕ) (g′ : GraphicsController) → k ≡ number → g′ ≡ leftBy k → outcome (said k (one 0)) (device g′ m) ≡ outcome (said k (one 0)) (device (leftBy number) m)
-  refused-left k g′ e eg = ap (λ (g : GraphicsController). outcome (said k (one 0)) (device g m)) (eg ∙ ap leftBy e)
+  refused-left : (k : ℕ) (u : Value) (g′ : GraphicsController) → k ≡ number → g′ ≡ leftBy k → outcome (said k u) (device g′ m) ≡ outcome (said k u) (device (leftBy number) m)
+  refused-left k u g′ e eg = ap (λ (g : GraphicsController). outcome (said k u) (device g m)) (eg ∙ ap leftBy e)
 
   pub read-refused : (k : ℕ) (g′ : GraphicsController) → 0 < k → k ≡ number → g′ ≡ leftBy k → outcome (said k (one 0)) (device g′ m) ≡ cpuStep g s m (cpuRead x page)
   unfolding cpuStep cpuPlan
   read-refused k g′ h e eg =
-      refused-left k g′ e eg
-      ∙ cpu-refused (cpuPlan (g .registers) s (shape m) (cpuRead x page)) g m k (one 0) h e (read-blank (readMode (g .registers)) (g .registers) s x at _ _)
+      refused-left k (one 0) g′ e eg
+      ∙ cpu-refused (cpuPlan (g .registers) s (shape m) (cpuRead x page)) g m k (one 0) h e (read-blank (readMode (g .registers)) (g .registers) s x at m _ _)
 
   -- latches loaded, one counter raised, and the answer from them
   pub read-done : (o t : ℕ) (l : List ℕ) (a : Said) (g′ : GraphicsController) → 0 ≡ number → o ≡ at → t ≡ storedAt s o → l ≡ loaded m t
@@ -216,26 +216,27 @@ module _ (g : GraphicsController) (s : Sequencer) (m : Memory) (x : ℕ) (page :
   unfolding cpuStep cpuPlan counted latchesAfter memoryAfter valueOf
   peek-done o p t b e eo ep et eb = cpu-done (cpuPlan (g .registers) s (shape m) (cpuPeek x page)) g m g m (one b) e refl refl (rw (eb, ep, et, eo))
 
-  pub write-refused : (v k : ℕ) (g′ : GraphicsController) → 0 < k → k ≡ number → g′ ≡ leftBy k → outcome (said k (one 0)) (device g′ m) ≡ cpuStep g s m (cpuWrite x page v)
+  pub write-refused : (v k : ℕ) (g′ : GraphicsController) → 0 < k → k ≡ number → g′ ≡ leftBy k → outcome (said k (changes 0 0 0 0)) (device g′ m) ≡ cpuStep g s m (cpuWrite x page v)
   unfolding cpuStep cpuPlan valueOf
-  write-refused v k g′ h e eg = refused-left k g′ e eg ∙ cpu-refused (cpuPlan (g .registers) s (shape m) (cpuWrite x page v)) g m k (one 0) h e refl
+  write-refused v k g′ h e eg = refused-left k (changes 0 0 0 0) g′ e eg ∙ cpu-refused (cpuPlan (g .registers) s (shape m) (cpuWrite x page v)) g m k (changes 0 0 0 0) h e refl
 
   -- a write moves no latch
   write-latches : (w : WriteMode) (o v : ℕ) → g .latches ≡ latchesAfter (writeDeed w (g .registers) s x o v) (g .latches) m
   unfolding writeDeed latchesAfter
   write-latches w o v = refl
 
-  -- one counter raised, and the mode's deed done
-  pub write-done : (v o : ℕ) (m′ : Memory) (a : Said) (g′ : GraphicsController) → 0 ≡ number → o ≡ at
-      → outcome a g′ ≡ outcome (said 0 (one 0)) (gcOf (g .registers) (counted (writeCounter (writeMode (g .registers))) (g .stats)) (g .latches))
+  -- one counter raised, the mode's deed done, and the four numbers of the offset stored at
+  pub write-done : (v o : ℕ) (m′ : Memory) (u : Value) (a : Said) (g′ : GraphicsController) → 0 ≡ number → o ≡ at
+      → outcome a g′ ≡ outcome (said 0 u) (gcOf (g .registers) (counted (writeCounter (writeMode (g .registers))) (g .stats)) (g .latches))
       → m′ ≡ memoryAfter (writeDeed (writeMode (g .registers)) (g .registers) s x o v) (g .latches) m
+      → u ≡ changesOf (changedAt m m′ (storedAt s o))
       → outcome a (device g′ m′) ≡ cpuStep g s m (cpuWrite x page v)
   unfolding cpuStep cpuPlan valueOf
-  write-done v o m′ a g′ e eo ea em =
+  write-done v o m′ u a g′ e eo ea em eu =
       ap (lifted (λ (g : GraphicsController). device g m′)) ea
-      ∙ cpu-done (cpuPlan (g .registers) s (shape m) (cpuWrite x page v)) g m _ m′ (one 0) e
+      ∙ cpu-done (cpuPlan (g .registers) s (shape m) (cpuWrite x page v)) g m _ m′ u e
       (ap (gcOf (g .registers) (counted (writeCounter (writeMode (g .registers))) (g .stats))) (write-latches (writeMode (g .registers)) at v))
-      (rw (← eo) em) refl
+      (rw (← eo) em) (rw (← eo) (eu ∙ ap (λ (q : Memory). changesOf (changedAt m q (storedAt s o))) em))
 
 module _ (g : GraphicsController) (s : Sequencer) (m : Memory) (o : ℕ) where
   pub show-refused : (k : ℕ) → 0 < k → k ≡ showNumber (g .registers) s (shape m) o → outcome (said k (part [])) (device g m) ≡ cpuStep g s m (serialize o)

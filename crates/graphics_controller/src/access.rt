@@ -3,7 +3,7 @@ ghost use mathlib.Core.Path.{_≡_};
 ghost use Prim.Native.Nat.{_<_, _≤_};
 ghost use lib.ListN.{length};
 ghost use Rattle.machine.specs.Memory.{lent, before, after, Shaped};
-ghost use Rattle.machine.specs.Answers.{refusalNumber, said, one, outcome, byteSaid, storeSaid};
+ghost use Rattle.machine.specs.Answers.{refusalNumber, said, one, outcome, byteSaid, changedValue, storeSaid};
 ghost use Rattle.machine.specs.Graphics.{gcOf, readMode, writeMode};
 ghost use Rattle.machine.specs.Deeds.{loaded};
 ghost use Rattle.machine.specs.Calls.{counted, readCounter, writeCounter, refusedCounter, refusalCounter, cpuRead, cpuPeek, cpuWrite};
@@ -17,6 +17,7 @@ use graphics_paths::pixel_op_compare;
 use graphics_paths::selected_plane;
 use graphics_visits::inner::write_planes;
 use machine_types::ByteAnswer;
+use machine_types::Changed;
 use machine_types::CpuByte;
 use machine_types::CpuStore;
 use machine_types::GraphicsController;
@@ -166,9 +167,9 @@ pub fn cpu_peek_u8(
     }
 }
 
-// The answer of an accepted write: its mode's counter goes up, registers and latches stay.
-fn write_done(gc: GraphicsController) -> CpuStore
-    ensures { λ r. ⌜ outcome (storeSaid (r .answer)) (r .gc) ≡ outcome (said 0 (one 0)) (gcOf (gc .registers) (counted (writeCounter (writeMode (gc .registers))) (gc .stats)) (gc .latches)) ⌝ }
+// The answer of an accepted write that changed so much: its mode's counter goes up, registers and latches stay.
+fn write_done(gc: GraphicsController, changed: Changed) -> CpuStore
+    ensures { λ r. ⌜ outcome (storeSaid (r .answer)) (r .gc) ≡ outcome (said 0 (changedValue changed)) (gcOf (gc .registers) (counted (writeCounter (writeMode (gc .registers))) (gc .stats)) (gc .latches)) ⌝ }
 {
     let registers = gc.registers;
     let stats = counted_write(fields::gc::write_mode(registers), gc.stats);
@@ -179,12 +180,12 @@ fn write_done(gc: GraphicsController) -> CpuStore
         latches,
     };
     CpuStore {
-        answer: StoreAnswer::Done,
+        answer: StoreAnswer::Done(changed),
         gc: next,
     }
 }
 
-// A write by the processor, through the mode, the latches and the mask.
+// A write by the processor, through the mode, the latches and the mask: how much of each plane it changed.
 pub fn cpu_write_u8(
     gc: GraphicsController,
     seq: Sequencer,
@@ -212,8 +213,8 @@ pub fn cpu_write_u8(
         },
         MappedAnswer::Done(offset, a0) => {
             let at = offset.0;
-            write_planes(gc, seq, p0, p1, p2, p3, picture, at, a0, address, byte);
-            write_done(gc)
+            let changed = write_planes(gc, seq, p0, p1, p2, p3, picture, at, a0, address, byte);
+            write_done(gc, changed)
         }
     }
 }

@@ -1,10 +1,10 @@
 -- A write's planes: four tests as four bits, bytes laid plane by plane, and the deed of a write from them.
-use Prim.Native.Nat.{ℕ, suc, _+_, _*_, _<_, min}
+use Prim.Native.Nat.{ℕ, zero, suc, _+_, _*_, _<_, min}
 use native.Mathlib.Omega.{arith}
 use native.Mathlib.Numerals.{add-one}
 use mathlib.Core.Path.{_≡_, refl, sym, ap, ap₂, _∙_}
 use mathlib.Core.Bool.{Bool, true, false, _&&_, _||_}
-use mathlib.Core.List.{List}
+use mathlib.Core.List.{List, [], _∷_}
 use lib.Dec.{eqb, lit<}
 use lib.Bits.{bitAnd, and-lt}
 use lib.ListN.{set}
@@ -16,10 +16,12 @@ use Rattle.machine_types.specs.declared.gc.GraphicsRegisters.{GraphicsRegisters
 use Rattle.machine_types.specs.declared.gc.WriteMode.{WriteMode}
 use Rattle.machine_types.specs.declared.seq.Sequencer.{Sequencer}
 use Rattle.machine.specs.Memory.{Memory, plane}
+use Rattle.machine.specs.Answers.{Value, changesOf}
 use Rattle.machine.specs.Sequencer.{storedAt}
-use Rattle.machine.specs.Deeds.{latch, any, laid, remade, stored, storedByte, memoryAfter}
+use Rattle.machine.specs.Deeds.{byte, latch, any, laid, remade, stored, storedByte, changedAt, memoryAfter}
 use Rattle.machine.specs.Calls.{writeDeed}
 use Rattle.machine.proofs.Laws.{below, laid-more, laid-skip}
+use Rattle.machine.proofs.Changes.{unchanged, remade-changes}
 use Rattle.graphics_bytes.specs.PlaneBytes.{planeBytes, four}
 use Rattle.graphics_bytes.proofs.Bytes.{latch-four}
 use Rattle.graphics_visits.specs.Writes.{stores, storesTo}
@@ -102,7 +104,33 @@ turn o w b m₀ m k h e = rw (add-one k, e) (go (w k) refl)
         ∙ laid-more o w b m₀ k h eb
     go false eb = laid-skip o w b m₀ k h eb
 
+-- .. and its number among the four: the numbers so far are those of the planes so far
+pub turn-number : (o : ℕ) (w : ℕ → Bool) (b : ℕ → ℕ) (m₀ m m′ : Memory) (k n : ℕ) (l : List ℕ) → k < 4 → m ≡ laid o (below k w) b m₀ → m′ ≡ laid o (below (k + 1) w) b m₀
+    → n ≡ changedAt m m′ o k → l ≡ four (changedAt m₀ m o) → set l k n ≡ four (changedAt m₀ m′ o)
+turn-number o w b m₀ m m′ k n l h e e′ en el =
+    let next = e′ ∙ ap (λ (j : ℕ). laid o (below j w) b m₀) (add-one k) in
+    ap₂ (λ (x : List ℕ) (y : ℕ). set x k y) (el ∙ ap (λ (q : Memory). four (changedAt m₀ q o)) e) (en ∙ ap₂ (λ (q r : Memory). changedAt q r o k) e next)
+    ∙ go k h
+    ∙ ap (λ (q : Memory). four (changedAt m₀ q o)) (sym next)
+  where
+    go : (k : ℕ) → k < 4 → set (four (changedAt m₀ (laid o (below k w) b m₀) o)) k (changedAt (laid o (below k w) b m₀) (laid o (below (suc k) w) b m₀) o k)
+        ≡ four (changedAt m₀ (laid o (below (suc k) w) b m₀) o)
+    go zero h = unfold laid changedAt in refl
+    go (suc zero) h = unfold laid changedAt in refl
+    go (suc (suc zero)) h = unfold laid changedAt in refl
+    go (suc (suc (suc zero))) h = unfold laid changedAt in refl
+    go (suc (suc (suc (suc k)))) h = absurd (omega arith)
+
+-- before the first visit no plane has changed
+pub none-visited : (m : Memory) (o : ℕ) → 0 ∷ 0 ∷ 0 ∷ 0 ∷ [] ≡ four (changedAt m m o)
+unfolding changedAt
+none-visited m o = rw (unchanged (byte m 0 o), unchanged (byte m 1 o), unchanged (byte m 2 o), unchanged (byte m 3 o))
+
 -- ---- the deed of a write
+
+-- the four numbers of the bytes laid are those of what is left once the pixels are remade
+pub write-numbers : (m m′ m″ : Memory) (v : Value) (place o : ℕ) → v ≡ changesOf (changedAt m m′ place) → m″ ≡ remade place m′ → place ≡ o → v ≡ changesOf (changedAt m m″ o)
+write-numbers m m′ m″ v place o ev left e = rw (← e) (ev ∙ sym (remade-changes m place place m′) ∙ ap (λ (k : Memory). changesOf (changedAt m k place)) (sym left))
 
 module _ (w : WriteMode) (r : GraphicsRegisters) (s : Sequencer) (x o v : ℕ) (l : List ℕ) (m : Memory) where
   -- nothing moves where no plane is stored

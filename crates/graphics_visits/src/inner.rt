@@ -6,18 +6,21 @@ ghost use lib.Dec.{eqb};
 ghost use lib.ListN.{length};
 ghost use Rattle.bits.specs.Bit.{bit, isOne, pick};
 ghost use Rattle.machine.specs.Memory.{lent, before, after, Shaped};
+ghost use Rattle.machine.specs.Answers.{changesOf, changedValue};
 ghost use Rattle.machine.specs.Graphics.{writeMode};
-ghost use Rattle.machine.specs.Sequencer.{fitsSeq};
+ghost use Rattle.machine.specs.Sequencer.{fitsSeq, storedAt};
 ghost use Rattle.machine.specs.Address.{a0 as bit0};
-ghost use Rattle.machine.specs.Deeds.{latch, laid, memoryAfter};
+ghost use Rattle.machine.specs.Deeds.{latch, laid, changedAt, memoryAfter};
 ghost use Rattle.machine.specs.Calls.{writeDeed};
 ghost use Rattle.graphics_visits.specs.Writes.{storesTo};
 use graphics_bytes::plane_bytes;
 use graphics_paths::visited;
+use machine_types::Changed;
 use machine_types::GraphicsController;
 use machine_types::GraphicsRegisters;
 use machine_types::Sequencer;
 use vram_planes::PlaneStore;
+use vram_planes::changed::unchanged;
 
 // The planes that are stored, as four bits: visited, and let through by the mask.
 fn stored_planes(
@@ -33,7 +36,7 @@ fn stored_planes(
     visited(registers, address) & sequencer_masks::inner::mask(seq, at, a0)
 }
 
-// One plane's visit: its byte laid where it is stored, and no pixel moved.
+// One plane's visit, and how many bits it changed: its byte laid where it is stored, and no pixel moved.
 fn visit_plane(
     p0: &mut [u8],
     p1: &mut [u8],
@@ -44,12 +47,13 @@ fn visit_plane(
     bytes: [u8; 4],
     plane: usize,
     at: usize,
-)
+) -> u8
     requires { ⌜ Shaped (lent p0 p1 p2 p3 picture) × ((at < length (now p0)) × (plane ≤ 3)) ⌝ }
-    ensures { λ _. ⌜ after p0 p1 p2 p3 picture ≡ pick (isOne (bit plane planes)) (laid at (λ q. eqb q plane) (λ q. latch bytes plane) (before p0 p1 p2 p3 picture)) (before p0 p1 p2 p3 picture) ⌝ }
+    ensures { λ r. ⌜ (after p0 p1 p2 p3 picture ≡ pick (isOne (bit plane planes)) (laid at (λ q. eqb q plane) (λ q. latch bytes plane) (before p0 p1 p2 p3 picture)) (before p0 p1 p2 p3 picture))
+        × (r ≡ changedAt (before p0 p1 p2 p3 picture) (after p0 p1 p2 p3 picture) at plane) ⌝ }
 {
     if planes & (1 << plane) != 0 {
-        vram_planes::inner::lay(
+        return vram_planes::inner::lay(
             p0,
             p1,
             p2,
@@ -61,9 +65,10 @@ fn visit_plane(
             bytes[plane],
         );
     }
+    0
 }
 
-// The four planes visited in turn.
+// The four planes visited in turn, and how many bits of each changed.
 fn visit(
     p0: &mut [u8],
     p1: &mut [u8],
@@ -73,16 +78,24 @@ fn visit(
     planes: u8,
     bytes: [u8; 4],
     at: usize,
-)
+) -> Changed
     requires { ⌜ Shaped (lent p0 p1 p2 p3 picture) × (at < length (now p0)) ⌝ }
-    ensures { λ _. ⌜ after p0 p1 p2 p3 picture ≡ laid at (λ p. isOne (bit p planes)) (latch bytes) (before p0 p1 p2 p3 picture) ⌝ }
+    ensures { λ r. ⌜ (after p0 p1 p2 p3 picture ≡ laid at (λ p. isOne (bit p planes)) (latch bytes) (before p0 p1 p2 p3 picture))
+        × (changedValue r ≡ changesOf (changedAt (before p0 p1 p2 p3 picture) (after p0 p1 p2 p3 picture) at)) ⌝ }
 {
+    let mut changed = [0u8; 4];
     for plane in 0..4usize {
-        visit_plane(p0, p1, p2, p3, picture, planes, bytes, plane, at);
+        changed[plane] = visit_plane(p0, p1, p2, p3, picture, planes, bytes, plane, at);
+    }
+    Changed {
+        p0: changed[0],
+        p1: changed[1],
+        p2: changed[2],
+        p3: changed[3],
     }
 }
 
-// What a write does to the memory, in every mode. Where no plane is stored, no pixel is remade.
+// What a write does to the memory, in every mode, and how much it changed. Where no plane is stored, no pixel is remade; where one is, they are, changed or not.
 pub fn write_planes(
     gc: GraphicsController,
     seq: Sequencer,
@@ -95,19 +108,21 @@ pub fn write_planes(
     a0: bool,
     address: usize,
     byte: u8,
-)
+) -> Changed
     requires { ⌜ Shaped (lent p0 p1 p2 p3 picture) × ((at < length (now p0)) × ((fitsSeq seq ≡ true) × (a0 ≡ bit0 address))) ⌝ }
-    ensures { λ _. ⌜ after p0 p1 p2 p3 picture ≡ memoryAfter (writeDeed (writeMode (gc .registers)) (gc .registers) seq address at byte) (gc .latches) (before p0 p1 p2 p3 picture) ⌝ }
+    ensures { λ r. ⌜ (after p0 p1 p2 p3 picture ≡ memoryAfter (writeDeed (writeMode (gc .registers)) (gc .registers) seq address at byte) (gc .latches) (before p0 p1 p2 p3 picture))
+        × (changedValue r ≡ changesOf (changedAt (before p0 p1 p2 p3 picture) (after p0 p1 p2 p3 picture) (storedAt seq at))) ⌝ }
 {
     let registers = gc.registers;
     let planes = stored_planes(registers, seq, at, a0, address);
     if planes == 0 {
-        return;
+        return unchanged();
     }
     let mode = fields::gc::write_mode(registers);
     let latches = gc.latches;
     let bytes = plane_bytes(mode, registers, latches, byte);
     let place = sequencer_masks::inner::stored_at(seq, at);
-    visit(p0, p1, p2, p3, picture, planes, bytes, place);
+    let changed = visit(p0, p1, p2, p3, picture, planes, bytes, place);
     vram_pixels::inner::remake(p0, p1, p2, p3, picture, place);
+    changed
 }

@@ -14,11 +14,13 @@ use denote.Triple.Entry.{Args}
 use denote.Triple.Clauses.{AtExit}
 use borrow.Fn.Kinds.{Dens}
 use Rattle.machine.specs.Memory.{Memory, lent}
-use Rattle.machine.specs.Answers.{one, outcome}
+use Rattle.machine.specs.Answers.{one, changes, outcome}
 use Rattle.machine.specs.Calls.{gcReset, gcWriteAddress, gcWriteData, cpuRead, cpuWrite}
 use Rattle.machine.specs.Step.{lifted, graphicsStep}
 use Rattle.answers.specs.declared.narrow.Answer.{Answer}
+use Rattle.answers.specs.declared.wide.Stored.{Stored}
 use Rattle.answers.specs.Answers.{answerSaid}
+use Rattle.answers.specs.Wide.{StoredAs}
 use Rattle.answers.proofs.Told.{answer-is, pixel-is, clock-is, mapped-is}
 use Rattle.host_records.proofs.Told.{sequencer-answer-is}
 use Rattle.host_records.specs.Records.{isSet, controllerOf, controllerRecordOf}
@@ -131,19 +133,19 @@ module _ (κs : Lfts 5) (a : Dens κs vram-serialize-linear-kinds.ps) where
 
 module _ (κs : Lfts 5) (a : Dens κs vram-write-u8-kinds.ps) where
   pub vram-write-u8-determined : OneOutcome (vram-write-u8.Post κs a) (λ e. lent (e .0) (e .1 .0) (e .1 .1 .0) (e .1 .1 .1 .0) (e .1 .1 .1 .1 .0))
-  vram-write-u8-determined r r′ e e′ p q = (answer-is r r′ (answer-of p q), next-of p q)
+  vram-write-u8-determined r r′ e e′ p q = (p .0 ∙ sym (q .0), p .1 ∙ sym (q .1))
 
 module _ (κs : Lfts 5) (a : Dens κs vram-plane-set-kinds.ps) where
   pub vram-plane-set-determined : OneOutcome (vram-plane-set.Post κs a) (λ e. lent (e .0) (e .1 .0) (e .1 .1 .0) (e .1 .1 .1 .0) (e .1 .1 .1 .1 .0))
-  vram-plane-set-determined r r′ e e′ p q = (answer-is r r′ (answer-of p q), next-of p q)
+  vram-plane-set-determined r r′ e e′ p q = (p .0 ∙ sym (q .0), p .1 ∙ sym (q .1))
 
 module _ (κs : Lfts 5) (a : Dens κs vram-plane-and-kinds.ps) where
   pub vram-plane-and-determined : OneOutcome (vram-plane-and.Post κs a) (λ e. lent (e .0) (e .1 .0) (e .1 .1 .0) (e .1 .1 .1 .0) (e .1 .1 .1 .1 .0))
-  vram-plane-and-determined r r′ e e′ p q = (answer-is r r′ (answer-of p q), next-of p q)
+  vram-plane-and-determined r r′ e e′ p q = (p .0 ∙ sym (q .0), p .1 ∙ sym (q .1))
 
 module _ (κs : Lfts 5) (a : Dens κs vram-plane-or-kinds.ps) where
   pub vram-plane-or-determined : OneOutcome (vram-plane-or.Post κs a) (λ e. lent (e .0) (e .1 .0) (e .1 .1 .0) (e .1 .1 .1 .0) (e .1 .1 .1 .1 .0))
-  vram-plane-or-determined r r′ e e′ p q = (answer-is r r′ (answer-of p q), next-of p q)
+  vram-plane-or-determined r r′ e e′ p q = (p .0 ∙ sym (q .0), p .1 ∙ sym (q .1))
 
 module _ (κs : Lfts 5) (a : Dens κs vram-deplane-kinds.ps) where
   pub vram-deplane-determined : OneOutcome (vram-deplane.Post κs a) (λ e. now (e .1 .1 .1 .1 .0))
@@ -211,15 +213,15 @@ module _ (κs : Lfts 5) (a : Dens κs seq-serialize-linear-kinds.ps) where
 
 module _ (κs : Lfts 5) (a : Dens κs seq-plane-set-kinds.ps) where
   pub seq-plane-set-determined : OneOutcome (seq-plane-set.Post κs a) (λ e. lent (e .1 .0) (e .1 .1 .0) (e .1 .1 .1 .0) (e .1 .1 .1 .1 .0) (e .1 .1 .1 .1 .1 .0))
-  seq-plane-set-determined r r′ e e′ p q = (answer-is r r′ (answer-of p q), next-of p q)
+  seq-plane-set-determined r r′ e e′ p q = (p .0 ∙ sym (q .0), p .1 ∙ sym (q .1))
 
 module _ (κs : Lfts 5) (a : Dens κs seq-plane-and-kinds.ps) where
   pub seq-plane-and-determined : OneOutcome (seq-plane-and.Post κs a) (λ e. lent (e .1 .0) (e .1 .1 .0) (e .1 .1 .1 .0) (e .1 .1 .1 .1 .0) (e .1 .1 .1 .1 .1 .0))
-  seq-plane-and-determined r r′ e e′ p q = (answer-is r r′ (answer-of p q), next-of p q)
+  seq-plane-and-determined r r′ e e′ p q = (p .0 ∙ sym (q .0), p .1 ∙ sym (q .1))
 
 module _ (κs : Lfts 5) (a : Dens κs seq-plane-or-kinds.ps) where
   pub seq-plane-or-determined : OneOutcome (seq-plane-or.Post κs a) (λ e. lent (e .1 .0) (e .1 .1 .0) (e .1 .1 .1 .0) (e .1 .1 .1 .1 .0) (e .1 .1 .1 .1 .1 .0))
-  seq-plane-or-determined r r′ e e′ p q = (answer-is r r′ (answer-of p q), next-of p q)
+  seq-plane-or-determined r r′ e e′ p q = (p .0 ∙ sym (q .0), p .1 ∙ sym (q .1))
 
 -- ---- the controller's record
 
@@ -314,15 +316,15 @@ module _ {M : Type 1} (𝓤 : URA M) (H : Heap 𝓤) (A : Atoms 𝓤) (at-mem : 
   gc-cpu-read-u8-determined r r′ e e′ p q = (answer-is r r′ (answer-of p q), ap (λ (h : Held). h .gc) (next-of p q))
 
 module _ {M : Type 1} (𝓤 : URA M) (H : Heap 𝓤) (A : Atoms 𝓤) (at-mem : Store → SProp 𝓤) (run : Routine → Fun 𝓤) (κs : Lfts 6) (a : Args gc-cpu-write-u8.signature κs) where
-  abbrev gc-cpu-write-u8-post : Answer → AtExit gc-cpu-write-u8.ended κs → Type 0
+  abbrev gc-cpu-write-u8-post : Stored → AtExit gc-cpu-write-u8.ended κs → Type 0
   gc-cpu-write-u8-post r e =
       let m = lent (a .1 .1 .0) (a .1 .1 .1 .0) (a .1 .1 .1 .1 .0) (a .1 .1 .1 .1 .1 .0) (a .1 .1 .1 .1 .1 .1 .0) in
       let m′ = lent (e .1 .1 .0) (e .1 .1 .1 .0) (e .1 .1 .1 .1 .0) (e .1 .1 .1 .1 .1 .0) (e .1 .1 .1 .1 .1 .1 .0) in
-      outcome (answerSaid r) (held (now (e .0)) m′)
-      ≡ cpuHosted (now (a .0)) (a .1 .0) m (one 0) (cpuWrite (a .1 .1 .1 .1 .1 .1 .1 .0) (isSet (a .1 .1 .1 .1 .1 .1 .1 .1 .0)) (a .1 .1 .1 .1 .1 .1 .1 .1 .1 .0))
+      StoredAs r (held (now (e .0)) m′)
+      (cpuHosted (now (a .0)) (a .1 .0) m (changes 0 0 0 0) (cpuWrite (a .1 .1 .1 .1 .1 .1 .1 .0) (isSet (a .1 .1 .1 .1 .1 .1 .1 .1 .0)) (a .1 .1 .1 .1 .1 .1 .1 .1 .1 .0)))
 
-  gc-cpu-write-u8-reads : (r : Answer) (e : AtExit gc-cpu-write-u8.ended κs) → gc-cpu-write-u8.clauses 𝓤 H A at-mem run κs a .ensures tt r e ≡ fact 𝓤 (gc-cpu-write-u8-post r e)
+  gc-cpu-write-u8-reads : (r : Stored) (e : AtExit gc-cpu-write-u8.ended κs) → gc-cpu-write-u8.clauses 𝓤 H A at-mem run κs a .ensures tt r e ≡ fact 𝓤 (gc-cpu-write-u8-post r e)
   gc-cpu-write-u8-reads r e = refl
 
   pub gc-cpu-write-u8-determined : OneOutcome gc-cpu-write-u8-post (λ e. held (now (e .0)) (lent (e .1 .1 .0) (e .1 .1 .1 .0) (e .1 .1 .1 .1 .0) (e .1 .1 .1 .1 .1 .0) (e .1 .1 .1 .1 .1 .1 .0)))
-  gc-cpu-write-u8-determined r r′ e e′ p q = (answer-is r r′ (answer-of p q), next-of p q)
+  gc-cpu-write-u8-determined r r′ e e′ p q = (p .0 ∙ sym (q .0), p .1 ∙ sym (q .1))

@@ -2,14 +2,15 @@
 ghost use mathlib.Core.Path.{_≡_};
 ghost use mathlib.Core.List.{[]};
 ghost use Rattle.machine.specs.Memory.{before, after};
-ghost use Rattle.machine.specs.Answers.{one, part, outcome};
+ghost use Rattle.machine.specs.Answers.{one, part, changes, outcome};
 ghost use Rattle.machine.specs.Calls.{cpuRead, cpuPeek, cpuWrite, serialize};
 ghost use Rattle.answers.specs.Answers.{answerSaid};
-ghost use Rattle.answers.specs.Wide.{shownOf};
+ghost use Rattle.answers.specs.Wide.{shownOf, StoredAs};
 ghost use Rattle.host_records.specs.Records.{isSet};
 ghost use Rattle.host_calls.specs.Hosted.{held, cpuHosted};
 use answers::Answer;
 use answers::Shown;
+use answers::Stored;
 use answers::of_byte;
 use answers::of_part;
 use answers::unknown;
@@ -57,9 +58,9 @@ pub extern "C" fn iddesmar_gc_cpu_write_u8(
     address: usize,
     page: u8,
     byte: u8,
-) -> Answer
-    ensures { λ r. ⌜ outcome (answerSaid r) (held (now (gc .exit)) (after p0 p1 p2 p3 picture))
-        ≡ cpuHosted (now (gc .entry)) seq (before p0 p1 p2 p3 picture) (one 0) (cpuWrite address (isSet page) byte) ⌝ }
+) -> Stored
+    ensures { λ r. ⌜ StoredAs r (held (now (gc .exit)) (after p0 p1 p2 p3 picture))
+        (cpuHosted (now (gc .entry)) seq (before p0 p1 p2 p3 picture) (changes 0 0 0 0) (cpuWrite address (isSet page) byte)) ⌝ }
 {
     let w = write_of(*gc, seq, p0, p1, p2, p3, picture, address, page, byte);
     gc.stats = w.stats;

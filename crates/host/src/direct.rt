@@ -2,20 +2,22 @@
 ghost use mathlib.Core.Path.{_≡_};
 ghost use mathlib.Core.List.{[]};
 ghost use Rattle.machine.specs.Memory.{before, after};
-ghost use Rattle.machine.specs.Answers.{one, pixel, part, outcome};
+ghost use Rattle.machine.specs.Answers.{one, pixel, part, changes, outcome};
 ghost use Rattle.machine.specs.Calls.{seqCpuReadU8, seqPeekU8, seqGcReadU8, seqReadLinear, seqSerializeLinear, seqPlaneSet, seqPlaneAnd, seqPlaneOr};
 ghost use Rattle.answers.specs.Answers.{answerSaid, pixelAnswerSaid};
-ghost use Rattle.answers.specs.Wide.{shownOf};
+ghost use Rattle.answers.specs.Wide.{shownOf, StoredAs};
 ghost use Rattle.host_records.specs.Records.{isSet};
 ghost use Rattle.host_calls.specs.Hosted.{directHosted};
 use answers::Answer;
 use answers::Shown;
+use answers::Stored;
 use answers::of_byte;
 use answers::of_part;
 use answers::of_pixel;
 use answers::of_store;
 use answers::unknown;
 use answers::unknown_shown;
+use answers::unknown_stored;
 use host_records::record::SequencerRecord;
 use host_records::record::is_set;
 use host_records::record::known_sequencer;
@@ -149,11 +151,11 @@ pub extern "C" fn iddesmar_seq_plane_set(
     offset: usize,
     a0: u8,
     byte: u8,
-) -> Answer
-    ensures { λ r. ⌜ outcome (answerSaid r) (after p0 p1 p2 p3 picture) ≡ directHosted seq (before p0 p1 p2 p3 picture) (one 0) (seqPlaneSet plane offset (isSet a0) byte) ⌝ }
+) -> Stored
+    ensures { λ r. ⌜ StoredAs r (after p0 p1 p2 p3 picture) (directHosted seq (before p0 p1 p2 p3 picture) (changes 0 0 0 0) (seqPlaneSet plane offset (isSet a0) byte)) ⌝ }
 {
     if !known_sequencer(seq) {
-        return unknown();
+        return unknown_stored();
     }
     let sequencer = to_sequencer(seq);
     let at = PlaneOffset(offset);
@@ -174,11 +176,11 @@ pub extern "C" fn iddesmar_seq_plane_and(
     offset: usize,
     a0: u8,
     byte: u8,
-) -> Answer
-    ensures { λ r. ⌜ outcome (answerSaid r) (after p0 p1 p2 p3 picture) ≡ directHosted seq (before p0 p1 p2 p3 picture) (one 0) (seqPlaneAnd plane offset (isSet a0) byte) ⌝ }
+) -> Stored
+    ensures { λ r. ⌜ StoredAs r (after p0 p1 p2 p3 picture) (directHosted seq (before p0 p1 p2 p3 picture) (changes 0 0 0 0) (seqPlaneAnd plane offset (isSet a0) byte)) ⌝ }
 {
     if !known_sequencer(seq) {
-        return unknown();
+        return unknown_stored();
     }
     let sequencer = to_sequencer(seq);
     let at = PlaneOffset(offset);
@@ -199,11 +201,11 @@ pub extern "C" fn iddesmar_seq_plane_or(
     offset: usize,
     a0: u8,
     byte: u8,
-) -> Answer
-    ensures { λ r. ⌜ outcome (answerSaid r) (after p0 p1 p2 p3 picture) ≡ directHosted seq (before p0 p1 p2 p3 picture) (one 0) (seqPlaneOr plane offset (isSet a0) byte) ⌝ }
+) -> Stored
+    ensures { λ r. ⌜ StoredAs r (after p0 p1 p2 p3 picture) (directHosted seq (before p0 p1 p2 p3 picture) (changes 0 0 0 0) (seqPlaneOr plane offset (isSet a0) byte)) ⌝ }
 {
     if !known_sequencer(seq) {
-        return unknown();
+        return unknown_stored();
     }
     let sequencer = to_sequencer(seq);
     let at = PlaneOffset(offset);

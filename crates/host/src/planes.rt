@@ -5,9 +5,10 @@ ghost use Rattle.machine.specs.Answers.{outcome};
 ghost use Rattle.machine.specs.Calls.{readU8, peekU8, readGlyph, readLinear, serializeLinear, writeU8, planeSet, planeAnd, planeOr, deplane as remakes};
 ghost use Rattle.machine.specs.Step.{vramStep};
 ghost use Rattle.answers.specs.Answers.{answerSaid, pixelAnswerSaid};
-ghost use Rattle.answers.specs.Wide.{shownOf};
+ghost use Rattle.answers.specs.Wide.{shownOf, StoredAs};
 use answers::Answer;
 use answers::Shown;
+use answers::Stored;
 use answers::of_byte;
 use answers::of_done;
 use answers::of_part;
@@ -104,8 +105,8 @@ pub extern "C" fn iddesmar_vram_write_u8(
     plane: usize,
     offset: usize,
     byte: u8,
-) -> Answer
-    ensures { λ r. ⌜ outcome (answerSaid r) (after p0 p1 p2 p3 picture) ≡ vramStep (before p0 p1 p2 p3 picture) (writeU8 plane offset byte) ⌝ }
+) -> Stored
+    ensures { λ r. ⌜ StoredAs r (after p0 p1 p2 p3 picture) (vramStep (before p0 p1 p2 p3 picture) (writeU8 plane offset byte)) ⌝ }
 {
     let answer = vram::write_u8(p0, p1, p2, p3, picture, plane, PlaneOffset(offset), byte);
     of_store(answer)
@@ -121,8 +122,8 @@ pub extern "C" fn iddesmar_vram_plane_set(
     plane: usize,
     offset: usize,
     byte: u8,
-) -> Answer
-    ensures { λ r. ⌜ outcome (answerSaid r) (after p0 p1 p2 p3 picture) ≡ vramStep (before p0 p1 p2 p3 picture) (planeSet plane offset byte) ⌝ }
+) -> Stored
+    ensures { λ r. ⌜ StoredAs r (after p0 p1 p2 p3 picture) (vramStep (before p0 p1 p2 p3 picture) (planeSet plane offset byte)) ⌝ }
 {
     let answer = vram::plane_set(p0, p1, p2, p3, picture, plane, PlaneOffset(offset), byte);
     of_store(answer)
@@ -138,8 +139,8 @@ pub extern "C" fn iddesmar_vram_plane_and(
     plane: usize,
     offset: usize,
     byte: u8,
-) -> Answer
-    ensures { λ r. ⌜ outcome (answerSaid r) (after p0 p1 p2 p3 picture) ≡ vramStep (before p0 p1 p2 p3 picture) (planeAnd plane offset byte) ⌝ }
+) -> Stored
+    ensures { λ r. ⌜ StoredAs r (after p0 p1 p2 p3 picture) (vramStep (before p0 p1 p2 p3 picture) (planeAnd plane offset byte)) ⌝ }
 {
     let answer = vram::plane_and(p0, p1, p2, p3, picture, plane, PlaneOffset(offset), byte);
     of_store(answer)
@@ -155,8 +156,8 @@ pub extern "C" fn iddesmar_vram_plane_or(
     plane: usize,
     offset: usize,
     byte: u8,
-) -> Answer
-    ensures { λ r. ⌜ outcome (answerSaid r) (after p0 p1 p2 p3 picture) ≡ vramStep (before p0 p1 p2 p3 picture) (planeOr plane offset byte) ⌝ }
+) -> Stored
+    ensures { λ r. ⌜ StoredAs r (after p0 p1 p2 p3 picture) (vramStep (before p0 p1 p2 p3 picture) (planeOr plane offset byte)) ⌝ }
 {
     let answer = vram::plane_or(p0, p1, p2, p3, picture, plane, PlaneOffset(offset), byte);
     of_store(answer)

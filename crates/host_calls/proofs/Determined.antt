@@ -1,11 +1,12 @@
 -- Any two outcomes that a function's contract permits for one input coincide. `Post` is each contract's own reading.
-use mathlib.Core.Path.{_≡_, ap, ap₂}
+use mathlib.Core.Path.{_≡_, sym, ap, ap₂, _∙_}
 use contract.Lifetimes.{Lfts}
 use borrow.Fn.Kinds.{Dens}
 use Rattle.machine.specs.Memory.{lent}
 use Rattle.machine.specs.Answers.{Said, Outcome, outcome}
 use Rattle.machine.proofs.Injective.{answer-of, next-of}
 use Rattle.answers.specs.declared.narrow.Answer.{Answer}
+use Rattle.answers.specs.declared.wide.Stored.{Stored}
 use Rattle.answers.proofs.Told.{answer-is}
 use Rattle.host_records.specs.declared.record.ControllerRecord.{ControllerRecord}
 use Rattle.host_records.specs.declared.record.StatsRecord.{StatsRecord}
@@ -50,5 +51,5 @@ module _ (κs : Lfts 5) (a : Dens κs read-of-kinds.ps) where
 module _ (κs : Lfts 5) (a : Dens κs write-of-kinds.ps) where
   pub write-of-determined : OneOutcome (write-of.Post κs a) (λ e. lent (e .1 .1 .0) (e .1 .1 .1 .0) (e .1 .1 .1 .1 .0) (e .1 .1 .1 .1 .1 .0) (e .1 .1 .1 .1 .1 .1 .0))
   write-of-determined r r′ e e′ p q =
-      let same-stats = ap (λ (g : ControllerRecord). g .stats) (gc-of p q) in
-      (ap₂ (λ (a : Answer) (t : StatsRecord). record { answer = a; stats = t }) (answer-is (r .answer) (r′ .answer) (answer-of p q)) same-stats, ap (λ (h : Held). h .memory) (next-of p q))
+      let left = p .1 ∙ sym (q .1) in
+      (ap₂ (λ (a : Stored) (t : StatsRecord). record { answer = a; stats = t }) (p .0 ∙ sym (q .0)) (ap (λ (h : Held). h .gc .stats) left), ap (λ (h : Held). h .memory) left)

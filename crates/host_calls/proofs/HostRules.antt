@@ -6,11 +6,12 @@ use mathlib.Core.Bool.{false}
 use mathlib.Core.List.{List, [], _∷_, _++_}
 use Rattle.bits.specs.Bit.{bitOf}
 use Rattle.machine.specs.Memory.{mem}
-use Rattle.machine.specs.Answers.{one, Outcome}
+use Rattle.machine.specs.Answers.{Value, one, changes, Said, Outcome}
 use Rattle.machine.specs.Calls.{SequencerCall, seqReset, seqSetClockChangePending, seqPollClockChange, seqWriteAddress, seqWriteData}
 use Rattle.machine.specs.Calls.{GraphicsCall, gcReset, gcWriteAddress, gcWriteData, CpuCall, cpuRead, cpuPeek, cpuWrite}
 use Rattle.machine.specs.Step.{lifted, sequencerStep, graphicsStep}
 use Rattle.machine.proofs.Computed.{computed}
+use Rattle.machine.proofs.Worked.{told}
 use Rattle.answers.proofs.Told.{firstOf}
 use Rattle.host_records.specs.declared.record.ControllerRecord.{ControllerRecord}
 use Rattle.host_records.specs.declared.record.SequencerRecord.{SequencerRecord}
@@ -109,31 +110,41 @@ gcAt q x = record {
   spare = 0x5A;
 }
 
--- number, value and every field that is left
-gcLeft : ℕ → ℕ → ControllerRecord → List ℕ
-gcLeft n x g =
+-- what is said, number and value, and every field that is left
+gcLeft : Said → ControllerRecord → List ℕ
+unfolding told
+gcLeft a g =
     let c = g .stats in
-    (n ∷ x ∷ c .«mode_0_writes» ∷ c .«mode_1_writes» ∷ c .«mode_2_writes» ∷ c .«mode_3_writes» ∷ c .«mode_0_reads» ∷ c .«mode_1_reads» ∷ c .«refused_accesses» ∷ [])
+    told a ++ ((c .«mode_0_writes» ∷ c .«mode_1_writes» ∷ c .«mode_2_writes» ∷ c .«mode_3_writes» ∷ c .«mode_0_reads» ∷ c .«mode_1_reads» ∷ c .«refused_accesses» ∷ [])
     ++ (g .«register_select_byte» ∷ g .«register_selected» ∷ g .«set_reset» ∷ g .«enable_set_reset» ∷ g .«color_compare» ∷ g .«data_rotate» ∷ g .«read_map_select»
-    ∷ g .mode ∷ g .miscellaneous ∷ g .«color_dont_care» ∷ g .bitmask ∷ g .spare ∷ g .latches)
+    ∷ g .mode ∷ g .miscellaneous ∷ g .«color_dont_care» ∷ g .bitmask ∷ g .spare ∷ g .latches))
 
 portLeft : Outcome ControllerRecord → List ℕ
 unfolding gcLeft
-portLeft o = gcLeft (o .answer .number) (firstOf (o .answer .value)) (o .next)
+portLeft o = gcLeft (o .answer) (o .next)
 
 gcSays : ControllerRecord → GraphicsCall → List ℕ
 unfolding portLeft graphicsHosted
 gcSays g c = portLeft (graphicsHosted g (one 0) c)
 
--- over planes of one byte
-cpuSays : ControllerRecord → SequencerRecord → CpuCall → List ℕ
+-- over planes of one byte: a call whose refusal 6 carries a value
+cpuSays : Value → ControllerRecord → SequencerRecord → CpuCall → List ℕ
 unfolding gcLeft cpuHosted
-cpuSays g s c =
-    let o : Outcome Held = cpuHosted g s (mem (0x11 ∷ []) (0x22 ∷ []) (0x33 ∷ []) (0x44 ∷ []) (0 ∷ 0 ∷ 0 ∷ 0 ∷ 0 ∷ 0 ∷ 0 ∷ 0 ∷ [])) (one 0) c in
-    gcLeft (o .answer .number) (firstOf (o .answer .value)) (o .next .gc)
+cpuSays v g s c =
+    let o : Outcome Held = cpuHosted g s (mem (0x11 ∷ []) (0x22 ∷ []) (0x33 ∷ []) (0x44 ∷ []) (0 ∷ 0 ∷ 0 ∷ 0 ∷ 0 ∷ 0 ∷ 0 ∷ 0 ∷ [])) v c in
+    gcLeft (o .answer) (o .next .gc)
+
+-- a read or a peek, and a write
+looks : ControllerRecord → SequencerRecord → CpuCall → List ℕ
+unfolding cpuSays
+looks = cpuSays (one 0)
+
+writes : ControllerRecord → SequencerRecord → CpuCall → List ℕ
+unfolding cpuSays
+writes = cpuSays (changes 0 0 0 0)
 
 pub controllerRows : List (List ℕ)
-unfolding gcAt gcLeft portLeft gcSays cpuSays seqAt graphicsHosted cpuHosted isSet computed
+unfolding gcAt gcLeft portLeft gcSays cpuSays looks writes seqAt graphicsHosted cpuHosted isSet computed
 controllerRows =
     -- a selected register is known from 0 to 8
     (bitOf (knownGc (gcAt 8 0)) ∷ bitOf (knownGc (gcAt 9 0)) ∷ [])
@@ -141,62 +152,70 @@ controllerRows =
     ∷ gcSays (gcAt 9 3) (gcWriteAddress 4)
     ∷ gcSays (gcAt 0 16) (gcWriteAddress 4)
     ∷ gcSays (gcAt 0 16) (gcWriteData 0x1E)
-    ∷ cpuSays (gcAt 9 3) (seqAt 0 3 2) (cpuRead 0xA0000 false)
-    ∷ cpuSays (gcAt 0 3) (seqAt 6 3 2) (cpuWrite 0xA0000 false 0x77)
-    ∷ cpuSays (gcAt 0 3) (seqAt 0 4 2) (cpuRead 0xA0000 false)
+    ∷ looks (gcAt 9 3) (seqAt 0 3 2) (cpuRead 0xA0000 false)
+    ∷ writes (gcAt 0 3) (seqAt 6 3 2) (cpuWrite 0xA0000 false 0x77)
+    ∷ looks (gcAt 0 3) (seqAt 0 4 2) (cpuRead 0xA0000 false)
     -- .. outside the window too, where no 2 is counted
-    ∷ cpuSays (gcAt 9 3) (seqAt 0 3 2) (cpuRead 0x9FFFF false)
-    ∷ cpuSays (gcAt 0 3) (seqAt 0 4 2) (cpuWrite 0x9FFFF false 0x77)
+    ∷ looks (gcAt 9 3) (seqAt 0 3 2) (cpuRead 0x9FFFF false)
+    ∷ writes (gcAt 0 3) (seqAt 0 4 2) (cpuWrite 0x9FFFF false 0x77)
     -- refusals 2 and 3: a read's and a write's are counted, a peek's are not
-    ∷ cpuSays (gcAt 0 3) (seqAt 0 3 2) (cpuRead 0x9FFFF false)
-    ∷ cpuSays (gcAt 0 3) (seqAt 0 3 2) (cpuRead 0xA0001 false)
-    ∷ cpuSays (gcAt 0 3) (seqAt 0 3 2) (cpuWrite 0x9FFFF false 0x77)
-    ∷ cpuSays (gcAt 0 3) (seqAt 0 3 2) (cpuWrite 0xA0001 false 0x77)
-    ∷ cpuSays (gcAt 0 3) (seqAt 0 3 2) (cpuPeek 0x9FFFF false)
-    ∷ cpuSays (gcAt 0 3) (seqAt 0 3 2) (cpuPeek 0xA0001 false)
-    -- accepted: the host's own byte stays; a read loads the latches and counts, and answers plane 0 of A0000, since Memory Mode 14 has chain-four; a write counts
+    ∷ looks (gcAt 0 3) (seqAt 0 3 2) (cpuRead 0x9FFFF false)
+    ∷ looks (gcAt 0 3) (seqAt 0 3 2) (cpuRead 0xA0001 false)
+    ∷ writes (gcAt 0 3) (seqAt 0 3 2) (cpuWrite 0x9FFFF false 0x77)
+    ∷ writes (gcAt 0 3) (seqAt 0 3 2) (cpuWrite 0xA0001 false 0x77)
+    ∷ looks (gcAt 0 3) (seqAt 0 3 2) (cpuPeek 0x9FFFF false)
+    ∷ looks (gcAt 0 3) (seqAt 0 3 2) (cpuPeek 0xA0001 false)
+    -- accepted: the host's own byte stays; a read loads the latches and counts, and answers plane 0 of A0000, since Memory Mode 14 has chain-four; a write counts, and
+    -- 77 over 11 changes four bits of plane 0
     ∷ gcSays (gcAt 0 3) (gcWriteAddress 4)
     ∷ gcSays (gcAt 0 3) (gcWriteData 0x1E)
-    ∷ cpuSays (gcAt 0 3) (seqAt 0 3 2) (cpuRead 0xA0000 false)
-    ∷ cpuSays (gcAt 0 3) (seqAt 0 3 2) (cpuWrite 0xA0000 false 0x77)
+    ∷ looks (gcAt 0 3) (seqAt 0 3 2) (cpuRead 0xA0000 false)
+    ∷ writes (gcAt 0 3) (seqAt 0 3 2) (cpuWrite 0xA0000 false 0x77)
     -- a reset takes any record
     ∷ portLeft (lifted (controllerRecordOf 0x5A) (graphicsStep (controllerOf (gcAt 9 16)) gcReset))
     ∷ []
 
--- what is left of gcAt q x behind a number, its last counter so
-leftWith : ℕ → ℕ → ℕ → ℕ → List ℕ
-leftWith t n q x = n ∷ 0 ∷ 1 ∷ 2 ∷ 3 ∷ 4 ∷ 5 ∷ 6 ∷ t ∷ 7 ∷ q ∷ x ∷ 0 ∷ 9 ∷ 0 ∷ 1 ∷ 0 ∷ 5 ∷ 12 ∷ 0xFF ∷ 0x5A ∷ 14 ∷ 15 ∷ 16 ∷ 17 ∷ []
+-- what is left of gcAt q x, its last counter so
+leftWith : ℕ → ℕ → ℕ → List ℕ
+leftWith t q x = 1 ∷ 2 ∷ 3 ∷ 4 ∷ 5 ∷ 6 ∷ t ∷ 7 ∷ q ∷ x ∷ 0 ∷ 9 ∷ 0 ∷ 1 ∷ 0 ∷ 5 ∷ 12 ∷ 0xFF ∷ 0x5A ∷ 14 ∷ 15 ∷ 16 ∷ 17 ∷ []
 
--- as handed in
-abbrev asItWas : ℕ → ℕ → ℕ → List ℕ
-asItWas = leftWith 18
+-- a refusal's number and value 0, and what was handed in
+asItWas : ℕ → ℕ → ℕ → List ℕ
+unfolding leftWith
+asItWas n q x = n ∷ 0 ∷ leftWith 18 q x
 
 -- with an access more turned away
-abbrev oneMore : ℕ → ℕ → ℕ → List ℕ
-oneMore = leftWith 19
+oneMore : ℕ → ℕ → ℕ → List ℕ
+unfolding leftWith
+oneMore n q x = n ∷ 0 ∷ leftWith 19 q x
+
+-- a write's refusal, its four numbers 0 (K6), its last counter so
+notWritten : ℕ → ℕ → ℕ → ℕ → List ℕ
+unfolding leftWith
+notWritten t n q x = n ∷ 0 ∷ 0 ∷ 0 ∷ 0 ∷ leftWith t q x
 
 pub controllerSaid : List (List ℕ)
-unfolding leftWith
+unfolding asItWas oneMore notWritten
 controllerSaid =
     (1 ∷ 0 ∷ [])
     ∷ asItWas 6 9 3
     ∷ asItWas 6 0 16
     ∷ asItWas 6 0 16
     ∷ asItWas 6 9 3
-    ∷ asItWas 6 0 3
+    ∷ notWritten 18 6 0 3
     ∷ asItWas 6 0 3
     ∷ asItWas 6 9 3
-    ∷ asItWas 6 0 3
+    ∷ notWritten 18 6 0 3
     ∷ oneMore 2 0 3
     ∷ oneMore 3 0 3
-    ∷ oneMore 2 0 3
-    ∷ oneMore 3 0 3
+    ∷ notWritten 19 2 0 3
+    ∷ notWritten 19 3 0 3
     ∷ asItWas 2 0 3
     ∷ asItWas 3 0 3
     ∷ (0 ∷ 0 ∷ 1 ∷ 2 ∷ 3 ∷ 4 ∷ 5 ∷ 6 ∷ 18 ∷ 4 ∷ 4 ∷ 3 ∷ 0 ∷ 9 ∷ 0 ∷ 1 ∷ 0 ∷ 5 ∷ 12 ∷ 0xFF ∷ 0x5A ∷ 14 ∷ 15 ∷ 16 ∷ 17 ∷ [])
     ∷ (0 ∷ 0 ∷ 1 ∷ 2 ∷ 3 ∷ 4 ∷ 5 ∷ 6 ∷ 18 ∷ 7 ∷ 0 ∷ 14 ∷ 0 ∷ 9 ∷ 0 ∷ 1 ∷ 0 ∷ 5 ∷ 12 ∷ 0xFF ∷ 0x5A ∷ 14 ∷ 15 ∷ 16 ∷ 17 ∷ [])
     ∷ (0 ∷ 0x11 ∷ 1 ∷ 2 ∷ 3 ∷ 4 ∷ 6 ∷ 6 ∷ 18 ∷ 7 ∷ 0 ∷ 3 ∷ 0 ∷ 9 ∷ 0 ∷ 1 ∷ 0 ∷ 5 ∷ 12 ∷ 0xFF ∷ 0x5A ∷ 0x11 ∷ 0x22 ∷ 0x33 ∷ 0x44 ∷ [])
-    ∷ (0 ∷ 0 ∷ 2 ∷ 2 ∷ 3 ∷ 4 ∷ 5 ∷ 6 ∷ 18 ∷ 7 ∷ 0 ∷ 3 ∷ 0 ∷ 9 ∷ 0 ∷ 1 ∷ 0 ∷ 5 ∷ 12 ∷ 0xFF ∷ 0x5A ∷ 14 ∷ 15 ∷ 16 ∷ 17 ∷ [])
+    ∷ (0 ∷ 4 ∷ 0 ∷ 0 ∷ 0 ∷ 2 ∷ 2 ∷ 3 ∷ 4 ∷ 5 ∷ 6 ∷ 18 ∷ 7 ∷ 0 ∷ 3 ∷ 0 ∷ 9 ∷ 0 ∷ 1 ∷ 0 ∷ 5 ∷ 12 ∷ 0xFF ∷ 0x5A ∷ 14 ∷ 15 ∷ 16 ∷ 17 ∷ [])
     ∷ (0 ∷ 0 ∷ 0 ∷ 0 ∷ 0 ∷ 0 ∷ 0 ∷ 0 ∷ 0 ∷ 0 ∷ 0 ∷ 0 ∷ 0 ∷ 0 ∷ 0 ∷ 0 ∷ 0 ∷ 0 ∷ 0 ∷ 0 ∷ 0x5A ∷ 0 ∷ 0 ∷ 0 ∷ 0 ∷ [])
     ∷ []
 

@@ -14,7 +14,8 @@ use Rattle.machine.specs.Deeds.{latchesAfter, memoryAfter, valueOf, perform}
 use Rattle.machine.specs.Calls.{SequencerCall, DirectCall, GraphicsCall, CpuCall, directPlan, gcNumberOf, cpuWrite, CpuPlan, cpuPlan, writeDeed}
 use Rattle.machine.specs.Step.{Device, device, lifted, cpuAfter, cpuRefused, cpuPerform, sequencerStep, directStep, graphicsStep, cpuStep}
 use Rattle.answers.specs.declared.wide.Shown.{Shown}
-use Rattle.answers.specs.Wide.{shownOf}
+use Rattle.answers.specs.declared.wide.Stored.{Stored}
+use Rattle.answers.specs.Wide.{shownOf, storedOf, StoredAs}
 use Rattle.host_records.specs.declared.record.StatsRecord.{StatsRecord}
 use Rattle.host_records.specs.declared.record.ControllerRecord.{ControllerRecord}
 use Rattle.host_records.specs.declared.record.SequencerRecord.{SequencerRecord}
@@ -114,6 +115,10 @@ module _ (g : ControllerRecord) (s : SequencerRecord) (m : Memory) (v : Value) (
 pub shown-of : {S : Type 0} (a : Said) (t : S) (o : Outcome S) (r : Shown) → r ≡ shownOf a → outcome a t ≡ o → r ≡ shownOf (o .answer)
 shown-of {S = S} a t o r f p = f ∙ ap (λ (o : Outcome S). shownOf (o .answer)) p
 
+-- the answer of a store, by value, and what it leaves
+pub stored-as : {S : Type 0} (a : Said) (t : S) (o : Outcome S) (r : Stored) → r ≡ storedOf a → outcome a t ≡ o → StoredAs r t o
+stored-as {S = S} a t o r f p = (f ∙ ap (λ (o : Outcome S). storedOf (o .answer)) p, ap (λ (o : Outcome S). o .next) p)
+
 -- ---- a write moves counters and memory alone
 
 write-latches : (w : WriteMode) (g : GraphicsController) (s : Sequencer) (m : Memory) (x o v : ℕ) → latchesAfter (writeDeed w (g .registers) s x o v) (g .latches) m ≡ g .latches
@@ -130,7 +135,7 @@ kept-either g (suc n) v new old p q = q
 
 plan-kept : (a : CpuPlan) (g : GraphicsController) (m : Memory) → latchesAfter (a .ask .deed) (g .latches) m ≡ g .latches → Kept g (cpuPerform a g m .next .gc)
 plan-kept a g m e =
-    kept-either g (a .ask .number) (valueOf (a .ask .reply) (latchesAfter (a .ask .deed) (g .latches) m) (memoryAfter (a .ask .deed) (g .latches) m)) (cpuAfter a g m) (cpuRefused a g m) (rw e) refl
+    kept-either g (a .ask .number) (valueOf (a .ask .reply) m (latchesAfter (a .ask .deed) (g .latches) m) (memoryAfter (a .ask .deed) (g .latches) m)) (cpuAfter a g m) (cpuRefused a g m) (rw e) refl
 
 write-kept : (g : GraphicsController) (s : Sequencer) (m : Memory) (x : ℕ) (page : Bool) (y : ℕ) → Kept g (cpuStep g s m (cpuWrite x page y) .next .gc)
 unfolding cpuStep cpuPlan
@@ -139,12 +144,12 @@ write-kept g s m x page y =
 
 module _ (g : ControllerRecord) (s : SequencerRecord) (m : Memory) (v : Value) (x : ℕ) (page : Bool) (y : ℕ) where
   pub cpu-wrote : true ≡ knownBoth g s → (g′ : GraphicsController) (s′ : Sequencer) → g′ ≡ controllerOf g → s′ ≡ sequencerOf s
-      → (a b : Said) (n : GraphicsController) (t : StatsRecord) (m′ : Memory) → outcome b t ≡ outcome a (statsRecordOf (n .stats))
-      → outcome a (device n m′) ≡ cpuStep g′ s′ m (cpuWrite x page y) → outcome b (held (withStats t g) m′) ≡ cpuHosted g s m v (cpuWrite x page y)
-  cpu-wrote e g′ s′ i j a b n t m′ f p = cpu-known g s m v (cpuWrite x page y) e g′ s′ i j a b n (withStats t g) m′ (said-of f) stays p
+      → (a : Said) (n : GraphicsController) (t : StatsRecord) (r : Stored) (m′ : Memory) → StoredAs r t (outcome a (statsRecordOf (n .stats)))
+      → outcome a (device n m′) ≡ cpuStep g′ s′ m (cpuWrite x page y) → StoredAs r (held (withStats t g) m′) (cpuHosted g s m v (cpuWrite x page y))
+  cpu-wrote e g′ s′ i j a n t r m′ f p = stored-as a (held (withStats t g) m′) _ r (f .0) (cpu-known g s m v (cpuWrite x page y) e g′ s′ i j a a n (withStats t g) m′ refl stays p)
     where
       same : Kept (controllerOf g) n
       same = subst (λ (q : GraphicsController). Kept q n) i (subst (Kept g′) (sym (ap (λ (o : Outcome Device). o .next .gc) p)) (write-kept g′ s′ m x page y))
 
       stays : withStats t g ≡ controllerRecordOf (g .spare) n
-      stays = sym (ap (controllerRecordOf (g .spare)) same ∙ ap (withStats (statsRecordOf (n .stats))) (record-back g (known-gc g s e)) ∙ ap (λ (t : StatsRecord). withStats t g) (sym (left-of f)))
+      stays = sym (ap (controllerRecordOf (g .spare)) same ∙ ap (withStats (statsRecordOf (n .stats))) (record-back g (known-gc g s e)) ∙ ap (λ (t : StatsRecord). withStats t g) (sym (f .1)))

@@ -1,10 +1,11 @@
 // The calls that move the controller's record, over a host's records and by value: the library puts back what they leave.
 ghost use mathlib.Core.Path.{_≡_};
 ghost use Rattle.machine.specs.Memory.{before, after};
-ghost use Rattle.machine.specs.Answers.{one, outcome};
+ghost use Rattle.machine.specs.Answers.{one, changes, outcome};
 ghost use Rattle.machine.specs.Calls.{cpuRead, cpuWrite, gcReset, gcWriteAddress, gcWriteData};
 ghost use Rattle.machine.specs.Step.{lifted, graphicsStep};
 ghost use Rattle.answers.specs.Answers.{answerSaid};
+ghost use Rattle.answers.specs.Wide.{StoredAs};
 ghost use Rattle.host_records.specs.Records.{isSet, withStats, controllerOf, controllerRecordOf};
 ghost use Rattle.host_calls.specs.Hosted.{held, cpuHosted, graphicsHosted};
 use answers::done;
@@ -55,7 +56,7 @@ pub fn read_of(
     }
 }
 
-// A write moves no register and no latch: the counters alone come back.
+// A write moves no register and no latch: the counters alone come back, beside how much it changed.
 pub fn write_of(
     gc: ControllerRecord,
     seq: SequencerRecord,
@@ -68,8 +69,8 @@ pub fn write_of(
     page: u8,
     byte: u8,
 ) -> StatsAnswer
-    ensures { λ r. ⌜ outcome (answerSaid (r .answer)) (held (withStats (r .stats) gc) (after p0 p1 p2 p3 picture))
-        ≡ cpuHosted gc seq (before p0 p1 p2 p3 picture) (one 0) (cpuWrite address (isSet page) byte) ⌝ }
+    ensures { λ r. ⌜ StoredAs (r .answer) (held (withStats (r .stats) gc) (after p0 p1 p2 p3 picture))
+        (cpuHosted gc seq (before p0 p1 p2 p3 picture) (changes 0 0 0 0) (cpuWrite address (isSet page) byte)) ⌝ }
 {
     if !known(gc, seq) {
         return unknown_counters(gc);

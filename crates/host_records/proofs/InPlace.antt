@@ -19,6 +19,8 @@ use Rattle.host_records.proofs.record.SequencerRecord as S
 use Rattle.host_records.proofs.record.SequencerRecord.Laws as S′
 use Rattle.answers.proofs.narrow.Answer as N
 use Rattle.answers.proofs.narrow.Answer.Laws as N′
+use Rattle.answers.proofs.wide.Stored as W
+use Rattle.answers.proofs.wide.Stored.Laws as W′
 use Rattle.host_records.proofs.left.ControllerAnswer as R
 use Rattle.host_records.proofs.left.ControllerAnswer.Laws as R′
 use Rattle.host_records.proofs.left.StatsAnswer as C
@@ -53,15 +55,15 @@ an-is r is = LL.owed R.the-type R′.the-laws r _ is .0
 pub gc-is : (r : ControllerAnswer) → Is R.the-row r (rval r ∷ []) → Is G.the-row (r .gc) (gval (r .gc) ∷ [])
 gc-is r is = LL.owed R.the-type R′.the-laws r _ is .1 .0
 
--- ---- an answer with the counters
+-- ---- a write's answer with the counters
 
 abbrev pub stats-rval : StatsAnswer → Val
 stats-rval = LL.val C.the-type C′.the-laws
 
 abbrev pub stats-aval : StatsAnswer → Val
-stats-aval r = LL.val N.the-type N′.the-laws (r .answer)
+stats-aval r = LL.val W.the-type W′.the-laws (r .answer)
 
-pub stats-an-is : (r : StatsAnswer) → Is C.the-row r (stats-rval r ∷ []) → Is N.the-row (r .answer) (stats-aval r ∷ [])
+pub stats-an-is : (r : StatsAnswer) → Is C.the-row r (stats-rval r ∷ []) → Is W.the-row (r .answer) (stats-aval r ∷ [])
 stats-an-is r is = LL.owed C.the-type C′.the-laws r _ is .0
 
 pub stats-is : (r : StatsAnswer) → Is C.the-row r (stats-rval r ∷ []) → Is T.the-row (r .stats) (LL.val T.the-type T′.the-laws (r .stats) ∷ [])

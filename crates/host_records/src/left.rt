@@ -1,9 +1,10 @@
 // An answer with the record that a call leaves, as a host keeps it, and refusal 6 with the record as it was handed in.
 ghost use mathlib.Core.Path.{_≡_};
-ghost use Rattle.machine.specs.Answers.{said, one, outcome, storeSaid, doneSaid, flagSaid};
+ghost use Rattle.machine.specs.Answers.{said, one, changes, outcome, storeSaid, doneSaid, flagSaid};
 ghost use Rattle.machine.specs.Step.{lifted};
 ghost use Rattle.host_records.specs.Records.{statsRecordOf, controllerRecordOf, sequencerRecordOf, leftTo};
 ghost use Rattle.answers.specs.Answers.{answerSaid};
+ghost use Rattle.answers.specs.Wide.{StoredAs};
 use crate::record::ControllerRecord;
 use crate::record::SequencerRecord;
 use crate::record::StatsRecord;
@@ -11,12 +12,14 @@ use crate::record::of_controller;
 use crate::record::of_sequencer;
 use crate::record::of_stats;
 use answers::Answer;
+use answers::Stored;
 use answers::done;
 use answers::given;
 use answers::of_done;
 use answers::of_store;
 use answers::refused;
 use answers::unknown;
+use answers::unknown_stored;
 use machine_types::CpuStore;
 use machine_types::DoneAnswer;
 use machine_types::FlagAnswer;
@@ -37,9 +40,9 @@ pub struct ControllerAnswer {
     pub gc: ControllerRecord,
 }
 
-// An answer and the counters as they are left.
+// A write's answer and the counters as they are left.
 pub struct StatsAnswer {
-    pub answer: Answer,
+    pub answer: Stored,
     pub stats: StatsRecord,
 }
 
@@ -62,11 +65,11 @@ pub fn unknown_controller(gc: ControllerRecord) -> ControllerAnswer
 }
 
 pub fn unknown_counters(gc: ControllerRecord) -> StatsAnswer
-    ensures { λ r. ⌜ outcome (answerSaid (r .answer)) (r .stats) ≡ outcome (said 6 (one 0)) (gc .stats) ⌝ }
+    ensures { λ r. ⌜ StoredAs (r .answer) (r .stats) (outcome (said 6 (changes 0 0 0 0)) (gc .stats)) ⌝ }
 {
     let stats = gc.stats;
     StatsAnswer {
-        answer: unknown(),
+        answer: unknown_stored(),
         stats,
     }
 }
@@ -118,9 +121,9 @@ pub fn of_graphics_done(spare: u8, left: GraphicsDone) -> ControllerAnswer
     }
 }
 
-// A write moves no register and no latch: the counters alone come back.
+// A write moves no register and no latch: the counters alone come back, beside how much it changed.
 pub fn of_cpu_store(left: CpuStore) -> StatsAnswer
-    ensures { λ r. ⌜ outcome (answerSaid (r .answer)) (r .stats) ≡ outcome (storeSaid (left .answer)) (statsRecordOf (left .gc .stats)) ⌝ }
+    ensures { λ r. ⌜ StoredAs (r .answer) (r .stats) (outcome (storeSaid (left .answer)) (statsRecordOf (left .gc .stats))) ⌝ }
 {
     let answer = left.answer;
     let gc = left.gc;

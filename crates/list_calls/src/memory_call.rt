@@ -6,6 +6,7 @@ use crate::stores::put;
 use answers::of_done;
 use answers::of_store;
 use graphics_controller::cpu_write_u8;
+use list_lines::said;
 use list_lines::said::GraphicsLeft;
 use list_lines::said::answer;
 use list_lines::said::done;
@@ -54,7 +55,7 @@ pub fn called(
 }
 
 fn stored(gc: GraphicsController, given: StoreAnswer) -> GraphicsLeft {
-    kept(gc, answer(of_store(given)))
+    kept(gc, said::stored(of_store(given)))
 }
 
 fn left(r: CpuStore) -> GraphicsLeft {

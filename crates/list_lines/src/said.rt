@@ -1,12 +1,14 @@
 // What a line of a list is told: an answer in the document's numbers, as `answers` gives it, or that the line is no call; and its text.
 use crate::print::nibble;
 use crate::print::number;
+use crate::print::numbers;
 use crate::print::put;
 use crate::print::word;
 use answers::Answer;
 use answers::Clock;
 use answers::Mapped;
 use answers::Shown;
+use answers::Stored;
 use machine_types::GraphicsController;
 
 // The answer's number, and what it hands back.
@@ -16,6 +18,8 @@ pub enum Said {
     Mapped(u8, u64, u64),
     // eight pixels, four bits each, the first one highest
     Shown(u64),
+    // how many bits of each plane changed
+    Stored(u8, u64, u64, u64, u64),
     // no operation has the line's number
     Unknown,
     // the line has more numbers than a call
@@ -48,6 +52,17 @@ pub fn clock(given: Clock) -> Said {
 
 pub fn mapped(given: Mapped) -> Said {
     Said::Mapped(given.number, given.offset as u64, given.a0 as u64)
+}
+
+pub fn stored(given: Stored) -> Said {
+    let c = given.changed;
+    Said::Stored(
+        given.number,
+        c[0] as u64,
+        c[1] as u64,
+        c[2] as u64,
+        c[3] as u64,
+    )
 }
 
 pub fn bit(b: bool) -> u64 {
@@ -92,6 +107,11 @@ pub fn text(said: Said, out: &mut [u8; 512], at: usize) -> usize {
         Said::Shown(shown) => {
             let next = number(out, at, 0);
             eight(out, next, shown)
+        }
+        Said::Stored(refusal, p0, p1, p2, p3) => {
+            let next = number(out, at, refusal as u64);
+            let changed = [p0, p1, p2, p3];
+            numbers(out, next, &changed)
         }
         Said::Unknown => word(out, at, b"unknown"),
         Said::Overlong => word(out, at, b"overlong"),

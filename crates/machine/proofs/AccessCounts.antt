@@ -122,23 +122,27 @@ turnedAway =
 abbrev away : ℕ → List ℕ
 away n = 0 ∷ 0 ∷ 0 ∷ 0 ∷ 0 ∷ 0 ∷ n ∷ []
 
+-- a read and a write, both refused with a number: the value 0, four times 0
+abbrev bothRefused : ℕ → List ℕ
+bothRefused n = n ∷ 0 ∷ n ∷ 0 ∷ 0 ∷ 0 ∷ 0 ∷ []
+
 pub turnedAwaySaid : List (List ℕ)
 unfolding each
 turnedAwaySaid =
-    (2 ∷ 0 ∷ 2 ∷ 0 ∷ 2 ∷ 0 ∷ 2 ∷ 0 ∷ 3 ∷ 0 ∷ 3 ∷ 0 ∷ 3 ∷ 0 ∷ 3 ∷ 0 ∷ [])
+    each bothRefused (2 ∷ 2 ∷ 3 ∷ 3 ∷ [])
     ∷ each away (1 ∷ 1 ∷ 1 ∷ 1 ∷ [])
     ∷ each away (1 ∷ 1 ∷ 1 ∷ 1 ∷ [])
     ∷ each away (replicate 8 8)
     ∷ away 4
     ∷ (1 ∷ 0 ∷ 0 ∷ 0 ∷ 0 ∷ 0 ∷ 1 ∷ [])
     ∷ each away (0 ∷ 0 ∷ 0 ∷ 0 ∷ [])
-    ∷ (5 ∷ 0 ∷ 0 ∷ 0 ∷ 0 ∷ 9 ∷ 2 ∷ 0 ∷ 0 ∷ 4 ∷ 0 ∷ 3 ∷ 0 ∷ 3 ∷ 0 ∷ 5 ∷ 0 ∷ 3 ∷ 0 ∷ 4 ∷ 0 ∷ 5 ∷ 0 ∷ 3 ∷ 0 ∷ [])
+    ∷ (5 ∷ 0 ∷ 0 ∷ 0 ∷ 0 ∷ 9 ∷ 2 ∷ 0 ∷ 0 ∷ 4 ∷ 0 ∷ 3 ∷ 0 ∷ 3 ∷ 0 ∷ 0 ∷ 0 ∷ 0 ∷ 5 ∷ 0 ∷ 3 ∷ 0 ∷ 4 ∷ 0 ∷ 0 ∷ 0 ∷ 0 ∷ 5 ∷ 0 ∷ 3 ∷ 0 ∷ [])
     ∷ away 0
-    ∷ each (λ n. n ∷ 0 ∷ []) (replicate 10 6)
+    ∷ each bothRefused (replicate 5 6)
     ∷ replicate 7 5
-    ∷ each (λ n. n ∷ 0 ∷ []) (replicate 10 6)
+    ∷ each bothRefused (replicate 5 6)
     ∷ replicate 7 5
-    ∷ each (λ n. n ∷ 0 ∷ []) (replicate 10 1)
+    ∷ each bothRefused (replicate 5 1)
     ∷ replicate 7 5
     ∷ (replicate 6 (2 ^ 32 - 1) ++ (0 ∷ []))
     ∷ (replicate 6 (2 ^ 32 - 1) ++ (1 ∷ []))

@@ -110,7 +110,7 @@ chainFourSaid =
     ∷ twice (0 ∷ 7 ∷ 0 ∷ 7 ∷ (shown ++ (shown ++ shown)))
     ∷ twice (0 ∷ 0xAA ∷ 0 ∷ 0xF0 ∷ [])
     ∷ twice (0 ∷ 0xAA ∷ 0 ∷ 0xF0 ∷ 0 ∷ 0x13 ∷ 0 ∷ 0x10 ∷ [])
-    ∷ twice (0 ∷ 0x11 ∷ 0 ∷ 0x11 ∷ 3 ∷ 0 ∷ 3 ∷ 0 ∷ 3 ∷ 0 ∷ [])
+    ∷ twice (0 ∷ 0x11 ∷ 0 ∷ 0x11 ∷ 3 ∷ 0 ∷ 3 ∷ 0 ∷ 3 ∷ 0 ∷ 0 ∷ 0 ∷ 0 ∷ [])
     ∷ []
 
 pub chain-four-rules : chainFourReads ≡ chainFourSaid

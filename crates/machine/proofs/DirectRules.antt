@@ -10,7 +10,7 @@ use Rattle.machine.specs.Calls.{readU8, peekU8, readGlyph, readLinear, s
 use Rattle.machine.specs.Calls.{seqCpuReadU8, seqPeekU8, seqGcReadU8, seqReadLinear, seqSerializeLinear, seqPlaneSet, seqPlaneAnd, seqPlaneOr}
 use Rattle.machine.specs.Step.{state, Call, vram, direct, cpu}
 use Rattle.machine.proofs.Computed.{computed}
-use Rattle.machine.proofs.Worked.{seqTo, says, leaves, each, tops, painted}
+use Rattle.machine.proofs.Worked.{inPlane, seqTo, says, leaves, each, tops, painted}
 
 -- every byte of the planes
 bytes : List Call → List ℕ
@@ -63,8 +63,8 @@ directlySaid =
     ∷ (0 ∷ 0 ∷ 0 ∷ 0xFF ∷ 0 ∷ 0xFF ∷ 0 ∷ 0 ∷ [])
     ∷ (replicate 20 0 ++ (0xFF ∷ replicate 11 0))
     ∷ (0 ∷ 0x44 ∷ 0 ∷ 0x55 ∷ 0 ∷ 0x55 ∷ 0 ∷ 0x55 ∷ 0 ∷ 0x55 ∷ 0 ∷ 0x55 ∷ 0 ∷ 0x55 ∷ 0 ∷ 0x55 ∷ 0 ∷ 0x55 ∷ 0 ∷ 0x55 ∷ 0 ∷ 0x55 ∷ 0 ∷ 0x55 ∷ [])
-    ∷ each (λ p. 0 ∷ 0 ∷ 0 ∷ 0x88 ∷ 0 ∷ 0 ∷ 0 ∷ 0x8F ∷ 0 ∷ 0 ∷ 0 ∷ 0x21 ∷ []) (0 ∷ 1 ∷ 2 ∷ 3 ∷ [])
-    ∷ each (λ p. 0 ∷ 0 ∷ 0 ∷ 0x88 ∷ 0 ∷ 0 ∷ 0 ∷ 0x8F ∷ []) (0 ∷ 1 ∷ 2 ∷ 3 ∷ [])
+    ∷ each (λ p. 0 ∷ (inPlane p 2 ++ (0 ∷ 0x88 ∷ 0 ∷ (inPlane p 3 ++ (0 ∷ 0x8F ∷ 0 ∷ (inPlane p 5 ++ (0 ∷ 0x21 ∷ []))))))) (0 ∷ 1 ∷ 2 ∷ 3 ∷ [])
+    ∷ each (λ p. 0 ∷ (inPlane p 2 ++ (0 ∷ 0x88 ∷ 0 ∷ (inPlane p 3 ++ (0 ∷ 0x8F ∷ []))))) (0 ∷ 1 ∷ 2 ∷ 3 ∷ [])
     ∷ (0 ∷ 0 ∷ 0 ∷ 0xCC ∷ 0 ∷ 0 ∷ 0 ∷ 0 ∷ [])
     ∷ (0 ∷ 0x44 ∷ 0 ∷ 4 ∷ [])
     ∷ (0 ∷ 8 ∷ 0 ∷ 1 ∷ 0 ∷ 8 ∷ 4 ∷ 2 ∷ 1 ∷ 8 ∷ 4 ∷ 2 ∷ 1 ∷ 0 ∷ 0 ∷ 0 ∷ 0 ∷ 0 ∷ 8 ∷ 4 ∷ 2 ∷ 1 ∷ 0 ∷ 8 ∷ 4 ∷ 2 ∷ 1 ∷ 8 ∷ 4 ∷ 2 ∷ 1 ∷ [])

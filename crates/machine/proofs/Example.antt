@@ -21,7 +21,7 @@ use Rattle.machine.specs.Isolation.{Alike, Obeys, Along, Throughout}
 use Rattle.machine.specs.Claims.{total, sevenTotal, countsWhere, tallyWhere, tally, sevenTally, Matches}
 use Rattle.machine.proofs.Isolation.{isolation}
 use Rattle.machine.proofs.Computed.{computed}
-use Rattle.machine.proofs.Worked.{gcTo, seqTo, aNumber, aPixel, aShow}
+use Rattle.machine.proofs.Worked.{gcTo, seqTo, aNumber, aPixel, aShow, aStore}
 use Rattle.machine.proofs.Questions.{quiet, quiet-obeys}
 use Rattle.machine.proofs.AlikeStates.{withPlane, with-plane-alike}
 use Rattle.machine.proofs.EveryKind.{everyKind}
@@ -39,7 +39,7 @@ cheap = withPlane 3 label (0x00 ∷ 0x18 ∷ []) 0x00 0
 
 pub dear : State
 unfolding label withPlane
-dear = withPlane 3 label (0x7E ∷ 0xFF ∷ []) 0x7E 1
+dear = withPlane 3 label (0x7E ∷ 0xF0 ∷ []) 0x7E 1
 
 -- the label is painted and read
 pub painting : List Call
@@ -131,13 +131,16 @@ every-kind = refl
 
 -- ---- what is answered
 
--- the answers of either run, but for the pixels: an offset's eight, the same before they were ever made, pixels 1 and 6, an offset's eight with the bar
-labelSays : List ℕ → List ℕ → ℕ → ℕ → List ℕ → List Said
-labelSays eight unmade second seventh barred =
+-- the answers of either run, but for the pixels: an offset's eight, the same before they were ever made, pixels 1 and 6, an offset's eight with the bar;
+-- and but for plane 3's number of three stores (K6): of the latches stored, of its byte put, of its byte masked
+labelSays : List ℕ → List ℕ → ℕ → ℕ → List ℕ → ℕ → ℕ → ℕ → List Said
+labelSays eight unmade second seventh barred copied put kept =
     -- the registers written, the read, the store, the registers written
     replicate 8 (aNumber 0)
     ++ (aNumber 0xF0
-    ∷ (replicate 7 (aNumber 0)
+    ∷ (replicate 2 (aNumber 0)
+    ++ (aStore 4 4 4 copied
+    ∷ (replicate 4 (aNumber 0)
     -- the compare read, the show, refusal 3, the peek
     ++ (aNumber 0x40
     ∷ aShow eight
@@ -156,12 +159,19 @@ labelSays eight unmade second seventh barred =
     ∷ aShow eight
     ∷ aPixel seventh
     -- the registers written, the bar, the show
-    ∷ (replicate 9 (aNumber 0)
-    ++ (aShow barred
+    ∷ (replicate 8 (aNumber 0)
+    ++ (aStore 2 0 0 2
+    ∷ aShow barred
     -- stored
-    ∷ (replicate 7 (aNumber 0)
+    ∷ aStore 6 0 0 0
+    ∷ aStore 0 0 0 put
+    ∷ aStore 0 0 0 kept
+    ∷ aStore 0 4 0 0
+    ∷ aStore 0 0 4 0
+    ∷ aStore 2 0 0 0
+    ∷ aStore 0 0 0 2
     -- clock 9, the mark set and polled, Map Mask 15
-    ++ (aNumber 9
+    ∷ aNumber 9
     ∷ aNumber 0
     ∷ aNumber 1
     ∷ aNumber 2
@@ -178,12 +188,12 @@ labelSays eight unmade second seventh barred =
     -- the registers written, plane 1's byte at offset 0 read and peeked, refusal 3
     ∷ (replicate 6 (aNumber 0) ++ (aNumber 0xCC ∷ aNumber 0xCC ∷ said 3 (one 0) ∷ [])))))))))
 
-cheap-says : computed cheap calls .answers ≡ labelSays (7 ∷ 3 ∷ 5 ∷ 1 ∷ 6 ∷ 2 ∷ 4 ∷ 0 ∷ []) (replicate 8 0) 3 4 (7 ∷ 3 ∷ 5 ∷ 1 ∷ 15 ∷ 11 ∷ 4 ∷ 0 ∷ [])
+cheap-says : computed cheap calls .answers ≡ labelSays (7 ∷ 3 ∷ 5 ∷ 1 ∷ 6 ∷ 2 ∷ 4 ∷ 0 ∷ []) (replicate 8 0) 3 4 (7 ∷ 3 ∷ 5 ∷ 1 ∷ 15 ∷ 11 ∷ 4 ∷ 0 ∷ []) 2 4 0
 unfolding cheap calls gcTo seqTo labelSays computed
 cheap-says = refl
 
--- the same, but for bit 3 of the pixels that carry the price
-dear-says : computed dear calls .answers ≡ labelSays (7 ∷ 11 ∷ 13 ∷ 9 ∷ 14 ∷ 10 ∷ 12 ∷ 0 ∷ []) (replicate 8 8) 11 12 (7 ∷ 11 ∷ 13 ∷ 9 ∷ 7 ∷ 3 ∷ 12 ∷ 0 ∷ [])
+-- the same, but for bit 3 of the pixels that carry the price, and for how many bits of plane 3 three stores changed
+dear-says : computed dear calls .answers ≡ labelSays (7 ∷ 11 ∷ 13 ∷ 9 ∷ 14 ∷ 10 ∷ 12 ∷ 0 ∷ []) (replicate 8 8) 11 12 (7 ∷ 11 ∷ 13 ∷ 9 ∷ 7 ∷ 3 ∷ 12 ∷ 0 ∷ []) 4 6 2
 unfolding dear calls gcTo seqTo labelSays computed
 dear-says = refl
 
@@ -203,7 +213,7 @@ dear-leaves = refl
 
 pub alike : Alike 3 cheap dear
 unfolding cheap dear
-alike = with-plane-alike 3 label (0x00 ∷ 0x18 ∷ []) (0x7E ∷ 0xFF ∷ []) refl 0x00 0x7E 0 1 (omega arith) (omega arith)
+alike = with-plane-alike 3 label (0x00 ∷ 0x18 ∷ []) (0x7E ∷ 0xF0 ∷ []) refl 0x00 0x7E 0 1 (omega arith) (omega arith)
 
 pub obeyed : Along (Obeys 3) cheap calls
 obeyed = quiet-obeys 3 calls cheap (unfold quiet calls gcTo seqTo cheap computed in refl)

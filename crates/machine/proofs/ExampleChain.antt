@@ -13,7 +13,7 @@ use Rattle.machine.specs.Step.{State, Call, cpu}
 use Rattle.machine.specs.Isolation.{Alike, Obeys, Along, Throughout, Asked, asksPeek}
 use Rattle.machine.proofs.Isolation.{isolation}
 use Rattle.machine.proofs.Computed.{computed}
-use Rattle.machine.proofs.Worked.{gcTo, seqTo, aNumber, aShow}
+use Rattle.machine.proofs.Worked.{gcTo, seqTo, aNumber, aShow, aStore}
 use Rattle.machine.proofs.Questions.{quiet, quiet-obeys}
 use Rattle.machine.proofs.AlikeStates.{withPlane, with-plane-alike}
 
@@ -72,7 +72,7 @@ colourSays eight =
     ∷ aNumber 0xF0
     ∷ aNumber 0xCC
     ∷ aNumber 0xAA
-    ∷ (replicate 9 (aNumber 0) ++ (aNumber 0x40 ∷ said 3 (one 0) ∷ aShow eight ∷ [])))
+    ∷ (replicate 2 (aNumber 0) ++ (aStore 0 0 0 4 ∷ (replicate 6 (aNumber 0) ++ (aNumber 0x40 ∷ said 3 (one 0) ∷ aShow eight ∷ [])))))
 
 low-says : computed low colourCalls .answers ≡ colourSays (7 ∷ 3 ∷ 5 ∷ 1 ∷ 14 ∷ 10 ∷ 12 ∷ 8 ∷ [])
 unfolding low colourCalls colourSays computed

@@ -13,7 +13,7 @@ use Rattle.machine.specs.Step.{State, Call, vram, direct, cpu}
 use Rattle.machine.specs.Isolation.{Alike, Obeys, Along, Throughout, Asked, asksPeek}
 use Rattle.machine.proofs.Isolation.{isolation}
 use Rattle.machine.proofs.Computed.{computed}
-use Rattle.machine.proofs.Worked.{gcTo, seqTo, aNumber, aPixel, aShow}
+use Rattle.machine.proofs.Worked.{gcTo, seqTo, aNumber, aPixel, aShow, aStore}
 use Rattle.machine.proofs.Questions.{quiet, quiet-obeys}
 use Rattle.machine.proofs.AlikeStates.{withPlane, with-plane-alike}
 
@@ -71,13 +71,16 @@ lotCalls =
 
 -- ---- what is answered, and what is left: plane 0 differs and changes
 
--- the answers of either run, but for the pixels: an offset's eight, and one of the other's
-lotSays : List ℕ → ℕ → List Said
-lotSays eight first =
+-- the answers of either run, but for the pixels, an offset's eight and one of the other's, and for plane 0's number of the store
+lotSays : List ℕ → ℕ → ℕ → List Said
+lotSays eight first changed =
     replicate 8 (aNumber 0)
     ++ (aNumber 0xAA
-    ∷ (replicate 5 (aNumber 0)
-    ++ (aNumber 0x75
+    ∷ (replicate 2 (aNumber 0)
+    ++ (aStore changed 2 4 5
+    ∷ aNumber 0
+    ∷ aNumber 0
+    ∷ aNumber 0x75
     ∷ (replicate 6 (aNumber 0)
     ++ (aNumber 0x05
     ∷ aShow eight
@@ -88,12 +91,12 @@ lotSays eight first =
     ∷ aNumber 0xA5
     ∷ (replicate 6 (aNumber 0) ++ (aNumber 0xCC ∷ aNumber 0xCC ∷ said 3 (one 0) ∷ said 2 (one 0) ∷ [])))))))
 
-early-says : computed early lotCalls .answers ≡ lotSays (6 ∷ 10 ∷ 12 ∷ 8 ∷ 0 ∷ 15 ∷ 0 ∷ 15 ∷ []) 0
+early-says : computed early lotCalls .answers ≡ lotSays (6 ∷ 10 ∷ 12 ∷ 8 ∷ 0 ∷ 15 ∷ 0 ∷ 15 ∷ []) 0 2
 unfolding early lotCalls lotSays computed
 early-says = refl
 
--- the same, but for bit 0 of the pixels
-late-says : computed late lotCalls .answers ≡ lotSays (7 ∷ 11 ∷ 13 ∷ 9 ∷ 0 ∷ 15 ∷ 0 ∷ 15 ∷ []) 1
+-- the same, but for bit 0 of the pixels and plane 0's number
+late-says : computed late lotCalls .answers ≡ lotSays (7 ∷ 11 ∷ 13 ∷ 9 ∷ 0 ∷ 15 ∷ 0 ∷ 15 ∷ []) 1 4
 unfolding late lotCalls lotSays computed
 late-says = refl
 

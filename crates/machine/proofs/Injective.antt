@@ -10,6 +10,7 @@ use Rattle.machine_types.specs.declared.answer.Refusal.{Refusal}
 use Rattle.machine_types.specs.declared.answer.Refusal.the-variants.{Memory, Window, Offset, Plane, Place, State, Damaged, Range, Shift, Room}
 use Rattle.machine_types.specs.declared.answer.ByteAnswer.{ByteAnswer}
 use Rattle.machine_types.specs.declared.answer.ByteAnswer.the-variants.{Done as ByteDone, Refused as ByteRefused}
+use Rattle.machine_types.specs.declared.answer.Changed.{Changed}
 use Rattle.machine_types.specs.declared.answer.StoreAnswer.{StoreAnswer}
 use Rattle.machine_types.specs.declared.answer.StoreAnswer.the-variants.{Done as StoreDone, Refused as StoreRefused}
 use Rattle.machine_types.specs.declared.answer.DoneAnswer.{DoneAnswer}
@@ -32,7 +33,7 @@ use Rattle.machine_types.specs.declared.gc.OddEvenModeComplement.{OddEvenModeCo
 use Rattle.machine_types.specs.declared.gc.OddEvenModeComplement.the-variants.{Sequential, OddEven}
 use Rattle.machine_types.specs.declared.gc.ShiftMode.{ShiftMode}
 use Rattle.machine_types.specs.declared.gc.ShiftMode.the-variants.{Standard, CGACompatible, Chain4, Unused}
-use Rattle.machine.specs.Answers.{refusalNumber, Value, one, two, pixel, part, pixelsOf, Said, Outcome, outcome, byteSaid, pixelSaid, storeSaid, doneSaid}
+use Rattle.machine.specs.Answers.{refusalNumber, Value, one, two, pixel, part, changes, pixelsOf, Said, Outcome, outcome, byteSaid, pixelSaid, storeSaid, doneSaid}
 use Rattle.machine.specs.Answers.{flagSaid, clockSaid, mapSaid, oddEvenSaid, shiftSaid, mappedSaid}
 
 -- two outcomes that are the machine's are one: the same is said, and the same is left
@@ -59,12 +60,22 @@ first (one x) = x
 first (two x y) = x
 first (pixel x) = x
 first (part l) = 0
+first (changes a b c d) = a
 
 second : Value → ℕ
 second (one x) = 0
 second (two x y) = y
 second (pixel x) = 0
 second (part l) = 0
+second (changes a b c d) = b
+
+-- the four numbers of a store
+changedBack : Value → Changed
+changedBack (one x) = record { p0 = x; p1 = 0; p2 = 0; p3 = 0 }
+changedBack (two x y) = record { p0 = x; p1 = y; p2 = 0; p3 = 0 }
+changedBack (pixel x) = record { p0 = x; p1 = 0; p2 = 0; p3 = 0 }
+changedBack (part l) = record { p0 = 0; p1 = 0; p2 = 0; p3 = 0 }
+changedBack (changes a b c d) = record { p0 = a; p1 = b; p2 = c; p3 = d }
 
 -- refusal 1, 2, ..
 refusalOf : ℕ → Refusal
@@ -105,10 +116,10 @@ pixel-injective = injective pixelSaid (answerOf (λ v. ByteDone (first v)) ByteR
     way (ByteRefused r) = back-refused _ _ r _
 
 pub store-injective : (a b : StoreAnswer) → storeSaid a ≡ storeSaid b → a ≡ b
-store-injective = injective storeSaid (answerOf (λ v. StoreDone) StoreRefused) way
+store-injective = injective storeSaid (answerOf (λ v. StoreDone (changedBack v)) StoreRefused) way
   where
-    way : (a : StoreAnswer) → answerOf (λ v. StoreDone) StoreRefused (storeSaid a) ≡ a
-    way StoreDone = unfold answerOf in refl
+    way : (a : StoreAnswer) → answerOf (λ v. StoreDone (changedBack v)) StoreRefused (storeSaid a) ≡ a
+    way (StoreDone x) = unfold answerOf changedBack in refl
     way (StoreRefused r) = back-refused _ _ r _
 
 pub done-injective : (a b : DoneAnswer) → doneSaid a ≡ doneSaid b → a ≡ b

@@ -20,8 +20,8 @@ use Rattle.machine.specs.Memory.{Memory, plane, planes, shape}
 use Rattle.machine.specs.Answers.{Value, blank, Outcome, answered}
 use Rattle.machine.specs.Graphics.{gcOf, readMode, withAddress, withData}
 use Rattle.machine.specs.Address.{offset}
-use Rattle.machine.specs.Deeds.{Deed, rest, load, store, remake, Reply, known, byteAt, compare, pixelAt, pixelsAt, Plan, byte, latch, loaded, pixelOf, eight}
-use Rattle.machine.specs.Deeds.{remade, storedByte, laid, any, stored, agrees, compared, latchesAfter, memoryAfter, valueOf, perform}
+use Rattle.machine.specs.Deeds.{Deed, rest, load, store, remake, Reply, known, byteAt, compare, pixelAt, pixelsAt, changesAt, Plan, byte, latch, loaded, pixelOf, eight}
+use Rattle.machine.specs.Deeds.{remade, storedByte, laid, any, stored, agrees, compared, changedBits, changedAt, latchesAfter, memoryAfter, valueOf, perform}
 use Rattle.machine.specs.Calls.{VramCall, readU8, peekU8, readGlyph, readLinear, serializeLinear, writeU8, planeSet, planeAnd, planeOr, deplane, vramPlan}
 use Rattle.machine.specs.Calls.{DirectCall, seqCpuReadU8, seqPeekU8, seqGcReadU8, seqReadLinear, seqSerializeLinear, seqPlaneSet, seqPlaneAnd, seqPlaneOr, directPlan}
 use Rattle.machine.specs.Calls.{GraphicsCall, gcReset, gcChain, gcChain4, gcMemoryMap, gcOddEven, gcShiftMode, gcReadAddress, gcReadData, gcWriteAddress}
@@ -31,7 +31,7 @@ use Rattle.machine.specs.Step.{vramStep, sequencerStep, directStep, grap
 use Rattle.machine.specs.Step.{direct, graphics, cpu, lifted, step}
 use Rattle.machine.specs.Isolation.{Agree, Both, none, more, AlikeMemory, AlikeLatches, AlikeGc, Alike, vramNotFrom, directNotFrom, selectedNotFrom, cpuNotFrom}
 use Rattle.machine.specs.Isolation.{NotFrom, comparedWithout, cpuWithout, ComparesWithout, cpuNoPeek, NoPeek, Obeys, Along}
-use Rattle.machine.specs.Isolation.{AlikeValue, same, pixels, parts, Together, Throughout}
+use Rattle.machine.specs.Isolation.{AlikeValue, same, pixels, parts, numbers, Together, Throughout}
 use Rattle.machine.proofs.Laws.{answered-number}
 
 -- ---- lists related entry by entry
@@ -81,13 +81,14 @@ pub record AlikePlan (k : ℕ) (a b : Plan) : Type 0 where
   pub deed : AlikeDeed k (a .deed) (b .deed)
   pub reply : AlikeReply k (a .reply) (b .reply)
 
--- a reply that tells nothing of plane k: it does not answer from it, nor compare over it
+-- a reply that tells nothing of plane k, but for its bit of pixels and its number of a store: it does not answer from it, nor compare over it
 unfoldable pub Silent : ℕ → Reply → Type 0
 Silent k (known v) = Unit {0}
 Silent k (byteAt p o) = p ≢ k
 Silent k (compare care colour) = bit k care ≡ 0
 Silent k (pixelAt j) = Unit {0}
 Silent k (pixelsAt j) = Unit {0}
+Silent k (changesAt o) = Unit {0}
 
 module _ (k : ℕ) where
   agree-self : (x : ℕ) → Agree k x x
@@ -205,28 +206,35 @@ module _ (k : ℕ) where
       unfolding compared
       compared-same care colour clear = of-ext 8 λ i h. ap (λ (f : ℕ → Bool). bitOf (every 4 f)) (fun-ext λ p. agrees-same care colour i p clear)
 
-      value-same : {q r : Reply} → AlikeReply k q r → Silent k q → AlikeValue k (valueOf q l m) (valueOf r u n)
+      -- the four numbers of a store, from the memories before it too
+      changed-same : (b d : Memory) → AlikeMemory k b d → (o p : ℕ) → p ≢ k → changedAt b m o p ≡ changedAt d n o p
+      unfolding changedAt
+      changed-same b d h o p ne = ap₂ changedBits (byte-same b d h p o ne) (byte-same m n a p o ne)
+
+      value-same : {q r : Reply} → AlikeReply k q r → Silent k q → (b d : Memory) → AlikeMemory k b d → AlikeValue k (valueOf q b l m) (valueOf r d u n)
       unfolding valueOf Silent
-      value-same (replies {r}) h = go r h
+      value-same (replies {r}) h b d e = go r h
         where
-          go : (r : Reply) → Silent k r → AlikeValue k (valueOf r l m) (valueOf r u n)
+          go : (r : Reply) → Silent k r → AlikeValue k (valueOf r b l m) (valueOf r d u n)
           go (known w) h = same
           go (byteAt p o) h = rw (byte-same m n a p o h) same
           go (compare care colour) h = rw (compared-same care colour h) same
           go (pixelAt j) h = pixels (both-at j 0 (agree-self 0) (a .pictures))
           go (pixelsAt j) h = parts (both-take 8 (both-drop j (a .pictures)))
+          go (changesAt o) h = numbers (changed-same b d e o)
 
       -- a refusal's value does not depend on what was read
-      blank-same : {q r : Reply} → AlikeReply k q r → blank (valueOf q l m) ≡ blank (valueOf r u n)
+      blank-same : {q r : Reply} → AlikeReply k q r → (b d : Memory) → blank (valueOf q b l m) ≡ blank (valueOf r d u n)
       unfolding valueOf
-      blank-same (replies {r}) = go r
+      blank-same (replies {r}) b d = go r
         where
-          go : (r : Reply) → blank (valueOf r l m) ≡ blank (valueOf r u n)
+          go : (r : Reply) → blank (valueOf r b l m) ≡ blank (valueOf r d u n)
           go (known w) = refl
           go (byteAt p o) = refl
           go (compare care colour) = refl
           go (pixelAt j) = refl
           go (pixelsAt j) = refl
+          go (changesAt o) = refl
 
   -- ---- one plan, two answers
 
@@ -244,7 +252,7 @@ module _ (k : ℕ) where
   performed a b q m n h s =
       let after = memory-after m n h [] [] no-latches (q .deed) in
       answered-alike (AlikeMemory k) _ _ _ _ m n (a .number) (b .number) (q .number)
-      (λ z. value-same _ _ after [] [] no-latches (q .reply) (s z)) (blank-same _ _ after [] [] no-latches (q .reply)) after h
+      (λ z. value-same _ _ after [] [] no-latches (q .reply) (s z) m n h) (blank-same _ _ after [] [] no-latches (q .reply) m n) after h
 
   record AlikeDevice (d e : Device) : Type 0 where
     gc : AlikeGc k (d .gc) (e .gc)
@@ -258,7 +266,7 @@ module _ (k : ℕ) where
         let after = memory-after m n e (g .latches) (h .latches) (c .latches) (q .deed) in
         let held = latches-after m n e (g .latches) (h .latches) (c .latches) (q .deed) in
         answered-alike AlikeDevice _ _ (cpuAfter a g m) (cpuAfter b h n) (cpuRefused a g m) (cpuRefused b h n) (a .ask .number) (b .ask .number) (q .number)
-        (λ z. value-same _ _ after _ _ held (q .reply) (s z)) (blank-same _ _ after _ _ held (q .reply))
+        (λ z. value-same _ _ after _ _ held (q .reply) (s z) m n e) (blank-same _ _ after _ _ held (q .reply) m n)
         (record { gc = record { registers = c .registers; stats = ap₂ counted i (c .stats); latches = held }; memory = after })
         (record { gc = record { registers = c .registers; stats = ap₂ counted (ap₂ refusalCounter (q .number) j) (c .stats); latches = c .latches }; memory = e })
 

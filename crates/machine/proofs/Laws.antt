@@ -1,5 +1,5 @@
 -- What the proofs of the code cite of the machine: an answer by its number, what an accepted check says, a store plane by plane.
-use Prim.Native.Nat.{ℕ, zero, suc, _*_, _≤_, _<_}
+use Prim.Native.Nat.{ℕ, zero, suc, _*_, _/_, _≤_, _<_}
 use native.Mathlib.Omega.{arith}
 use mathlib.Core.Path.{_≡_, refl}
 use mathlib.Core.Bool.{Bool, true, false, _&&_}
@@ -15,6 +15,7 @@ use Rattle.machine_types.specs.declared.shape.Shape.{Shape}
 use Rattle.machine.specs.Memory.{Memory, size, sound, Sound}
 use Rattle.machine.specs.Answers.{refusalNumber, Value, blank, said, outcome, answered}
 use Rattle.machine.specs.Graphics.{memoryMap}
+use Rattle.machine.specs.Sequencer.{chainFour, storedAt}
 use Rattle.machine.specs.Address.{inWindow, offset}
 use Rattle.machine.specs.Deeds.{Plan, perform, memoryAfter, valueOf, laid, remade, stored}
 use Rattle.machine.specs.Calls.{refuse, offsetNumber, planeNumber, placeNumber, shownNumber, accessNumber, fitsBoth, noCounter, isCounted, refusalCounter}
@@ -33,11 +34,11 @@ answered-refused zero n v w new old h e f = absurd (omega arith)
 answered-refused (suc k) n v w new old h e f = rw (← e, f)
 
 -- a plan carried out: accepted, or refused
-pub perform-done : (a : Plan) (m m′ : Memory) (v : Value) → 0 ≡ a .number → m′ ≡ memoryAfter (a .deed) [] m → v ≡ valueOf (a .reply) [] m′ → outcome (said 0 v) m′ ≡ perform a m
+pub perform-done : (a : Plan) (m m′ : Memory) (v : Value) → 0 ≡ a .number → m′ ≡ memoryAfter (a .deed) [] m → v ≡ valueOf (a .reply) m [] m′ → outcome (said 0 v) m′ ≡ perform a m
 unfolding perform
 perform-done a m m′ v e g h = answered-done (a .number) _ v _ m′ m e (rw (← g) h) g
 
-pub perform-refused : (a : Plan) (m : Memory) (k : ℕ) (v : Value) → 0 < k → k ≡ a .number → v ≡ blank (valueOf (a .reply) [] (memoryAfter (a .deed) [] m)) → outcome (said k v) m ≡ perform a m
+pub perform-refused : (a : Plan) (m : Memory) (k : ℕ) (v : Value) → 0 < k → k ≡ a .number → v ≡ blank (valueOf (a .reply) m [] (memoryAfter (a .deed) [] m)) → outcome (said k v) m ≡ perform a m
 unfolding perform
 perform-refused a m k v h e f = answered-refused k (a .number) _ v _ m h e f
 
@@ -143,6 +144,19 @@ module _ (h : Shape) where
       let c = refuse-0 (inWindow (memoryMap r) x) 1 _ (b .1) in
       let d = refuse-0 _ 2 _ (c .1) in
       record { shaped = sound-facts h (b .0); offset = ltb-true _ _ (d .0) }
+
+-- ---- where chain-four leads: never past the offset that was judged, so within the plane where that is
+
+pub stored-at-le : (s : Sequencer) (o : ℕ) → storedAt s o ≤ o
+unfolding storedAt
+stored-at-le s o = go (chainFour s)
+  where
+    go : (b : Bool) → pick b (o / 4 * 4) o ≤ o
+    go true = omega arith
+    go false = omega arith
+
+pub stored-at-lt : (s : Sequencer) (o : ℕ) {at n : ℕ} → at ≡ storedAt s o → o < n → at < n
+stored-at-lt s o e h = omega (arith, stored-at-le s o)
 
 -- ---- a store, plane by plane
 

@@ -6,8 +6,10 @@ pub mod Computed
 pub mod Worked
 pub mod TwelveCases
 pub mod AccessCounts
+pub mod AccessChanges
 pub mod Refusals
 pub mod Records
+pub mod Changes
 pub mod Counters
 pub mod Pictures
 pub mod Once

@@ -14,7 +14,7 @@ use Rattle.machine_types.specs.declared.gc.ReadMode.the-variants.{ReadSelectedP
 use Rattle.machine.specs.Memory.{shape}
 use Rattle.machine.specs.Graphics.{readMode}
 use Rattle.machine.specs.Address.{offset}
-use Rattle.machine.specs.Deeds.{Reply, known, byteAt, compare, pixelAt, pixelsAt}
+use Rattle.machine.specs.Deeds.{Reply, known, byteAt, compare, pixelAt, pixelsAt, changesAt}
 use Rattle.machine.specs.Calls.{VramCall, readU8, peekU8, readGlyph, readLinear, serializeLinear, writeU8, planeSet, planeAnd, planeOr, deplane, vramPlan}
 use Rattle.machine.specs.Calls.{DirectCall, seqCpuReadU8, seqPeekU8, seqGcReadU8, seqReadLinear, seqSerializeLinear, seqPlaneSet, seqPlaneAnd, seqPlaneOr, directPlan}
 use Rattle.machine.specs.Calls.{CpuCall, cpuRead, cpuPeek, cpuWrite, serialize, cpuPlan, readReply, seqValue, gcValue}
@@ -128,6 +128,7 @@ isSilent k (byteAt p o) = not (eqb p k)
 isSilent k (compare care colour) = eqb (bit k care) 0
 isSilent k (pixelAt j) = true
 isSilent k (pixelsAt j) = true
+isSilent k (changesAt o) = true
 
 silent-told : (k : ℕ) (r : Reply) → isSilent k r ≡ true → Silent k r
 unfolding isSilent Silent
@@ -136,6 +137,7 @@ silent-told k (byteAt p o) e = eqb-false p k (not-true _ e)
 silent-told k (compare care colour) e = eqb-true (bit k care) 0 e
 silent-told k (pixelAt j) e = tt
 silent-told k (pixelsAt j) e = tt
+silent-told k (changesAt o) e = tt
 
 -- whether no reply of a run tells of plane k: each call is refused, or its reply is silent
 unfoldable pub quiet : ℕ → State → List Call → Bool

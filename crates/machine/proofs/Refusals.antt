@@ -18,7 +18,7 @@ use Rattle.machine_types.specs.declared.seq.Sequencer.{Sequencer}
 use Rattle.machine_types.specs.declared.shape.Shape.{Shape}
 use Rattle.bits.specs.Bit.{pick}
 use Rattle.machine.specs.Memory.{Memory, shape, sound, Shaped}
-use Rattle.machine.specs.Answers.{Value, one, two, pixel, part, blank, Outcome, answered}
+use Rattle.machine.specs.Answers.{Value, one, two, pixel, part, changes, blank, Outcome, answered}
 use Rattle.machine.specs.Graphics.{fitsGc, shiftMode, memoryMap, gcOf}
 use Rattle.machine.specs.Sequencer.{fitsSeq}
 use Rattle.machine.specs.Address.{inWindow, offset}
@@ -292,6 +292,7 @@ blank-blank (one x) = refl
 blank-blank (two x y) = refl
 blank-blank (pixel x) = refl
 blank-blank (part l) = refl
+blank-blank (changes a b c d) = refl
 
 answered-stays : {S : Type 0} (n : ℕ) (v : Value) (new old : S) → answered n v new old .answer .number ≢ 0 → Stays (answered n v new old) old
 answered-stays zero v new old ne = absurd (ne refl)
@@ -333,7 +334,7 @@ unfolding cpuStep
 cpu-stays g s m c ne =
     let a = cpuPlan (g .registers) s (shape m) c in
     let left = controller-left g (g .registers) s (shape m) (a .ask .number) c in
-    rw (← answered-number (a .ask .number) (valueOf (a .ask .reply) (cpuAfter a g m .gc .latches) (cpuAfter a g m .memory)) (cpuAfter a g m) (cpuRefused a g m), ← left)
+    rw (← answered-number (a .ask .number) (valueOf (a .ask .reply) m (cpuAfter a g m .gc .latches) (cpuAfter a g m .memory)) (cpuAfter a g m) (cpuRefused a g m), ← left)
     (answered-stays (a .ask .number) _ _ (cpuRefused a g m) ne)
 
 lifted-stays : {S T : Type 0} (f : S → T) (o : Outcome S) (old : S) → Stays o old → Stays (lifted f o) (f old)

@@ -17,12 +17,12 @@ use Rattle.machine_types.specs.declared.gc.GraphicsController.{GraphicsControll
 use Rattle.machine_types.specs.declared.seq.Sequencer.{Sequencer}
 use Rattle.machine_types.specs.declared.shape.Shape.{Shape}
 use Rattle.machine.specs.Memory.{Memory, shape, sound}
-use Rattle.machine.specs.Answers.{Value, one, two, blank, said, outcome, answered}
+use Rattle.machine.specs.Answers.{Value, one, two, changes, blank, said, outcome, answered}
 use Rattle.machine.specs.Graphics.{fitsGc, chained, memoryMap, readMode, writeMode}
 use Rattle.machine.specs.Sequencer.{storedAt}
 use Rattle.machine.specs.Address.{inWindow, a0, withBit0, mapped, offset}
 use Rattle.machine.specs.DataPath.{peekedPlane}
-use Rattle.machine.specs.Deeds.{rest, load, known, byteAt, plan, memoryAfter, valueOf}
+use Rattle.machine.specs.Deeds.{rest, load, byteAt, changesAt, plan, memoryAfter, valueOf}
 use Rattle.machine.specs.Calls.{refuse, checkOffset, fitsBoth, accessNumber, gcMapAddress, gcNumberOf, gcValue, gcNext}
 use Rattle.machine.specs.Calls.{CpuCall, cpuRead, cpuPeek, cpuWrite, CpuPlan, cpuPlanOf, writeCounter, readCounter, refusedCounter, noCounter, readReply, writeDeed, cpuPlan}
 use Rattle.machine.specs.Step.{graphicsStep, Device, cpuRefused, cpuPerform, cpuStep, graphics, cpu}
@@ -50,7 +50,7 @@ pub mapping-rules : mappings
     ≡ (0 ∷ 0x4000 ∷ 1 ∷ 0 ∷ 1 ∷ 0 ∷ 0 ∷ 0xC001 ∷ 1 ∷ 2 ∷ 0 ∷ 0 ∷ 2 ∷ 0 ∷ 0 ∷ [])
     ∷ (0 ∷ 0x4000 ∷ 1 ∷ 0 ∷ 1 ∷ 0 ∷ [])
     ∷ (0 ∷ 0x4001 ∷ 1 ∷ 0 ∷ 0 ∷ 0 ∷ [])
-    ∷ (2 ∷ 0 ∷ 2 ∷ 0 ∷ 2 ∷ 0 ∷ [])
+    ∷ (2 ∷ 0 ∷ 2 ∷ 0 ∷ 2 ∷ 0 ∷ 0 ∷ 0 ∷ 0 ∷ [])
     ∷ []
 unfolding mappings
 mapping-rules = refl
@@ -105,7 +105,7 @@ accessAt (writes v) x page = cpuWrite x page v
 abbrev planAt : GraphicsRegisters → Sequencer → ℕ → Access → ℕ → ℕ → CpuPlan
 planAt r s x reads n o = cpuPlanOf (plan n (load (storedAt s o)) (readReply (readMode r) r s x o)) (readCounter (readMode r)) refusedCounter
 planAt r s x peeks n o = cpuPlanOf (plan n rest (byteAt (peekedPlane s o) (storedAt s o))) noCounter noCounter
-planAt r s x (writes v) n o = cpuPlanOf (plan n (writeDeed (writeMode r) r s x o v) (known (one 0))) (writeCounter (writeMode r)) refusedCounter
+planAt r s x (writes v) n o = cpuPlanOf (plan n (writeDeed (writeMode r) r s x o v) (changesAt (storedAt s o))) (writeCounter (writeMode r)) refusedCounter
 
 module _ (rule : GraphicsRegisters → ℕ → Bool → ℕ) (r : GraphicsRegisters) (s : Sequencer) (h : Shape) (x : ℕ) (page : Bool) where
   abbrev numberBy : ℕ
@@ -159,10 +159,16 @@ module _ (r : GraphicsRegisters) (x : ℕ) (page : Bool) where
 -- ---- by the rule as written: every answer, and what is left
 
 -- a refused read's value is 0 in both read modes
-blank-read : (d : ReadMode) (r : GraphicsRegisters) (s : Sequencer) (x o : ℕ) (l : List ℕ) (m : Memory) → blank (valueOf (readReply d r s x o) l m) ≡ one 0
+blank-read : (d : ReadMode) (r : GraphicsRegisters) (s : Sequencer) (x o : ℕ) (was : Memory) (l : List ℕ) (m : Memory) → blank (valueOf (readReply d r s x o) was l m) ≡ one 0
 unfolding valueOf readReply
-blank-read ReadSelectedPlane r s x o l m = refl
-blank-read ReadComparedPlanes r s x o l m = refl
+blank-read ReadSelectedPlane r s x o was l m = refl
+blank-read ReadComparedPlanes r s x o was l m = refl
+
+-- what a refused access hands back
+abbrev blankOf : Access → Value
+blankOf reads = one 0
+blankOf peeks = one 0
+blankOf (writes v) = changes 0 0 0 0
 
 module _ (g : GraphicsController) (s : Sequencer) (m : Memory) (x : ℕ) (page : Bool) where
   -- what a refused access leaves, whatever the offset: here 0
@@ -170,14 +176,14 @@ module _ (g : GraphicsController) (s : Sequencer) (m : Memory) (x : ℕ) (page :
   leftOf k n = cpuRefused (planAt (g .registers) s x k (suc n) 0) g m
 
   -- a refused access shows no offset
-  refused : (k : Access) (n o : ℕ) → cpuPerform (planAt (g .registers) s x k (suc n) o) g m ≡ outcome (said (suc n) (one 0)) (leftOf k n)
+  refused : (k : Access) (n o : ℕ) → cpuPerform (planAt (g .registers) s x k (suc n) o) g m ≡ outcome (said (suc n) (blankOf k)) (leftOf k n)
   unfolding memoryAfter valueOf
-  refused reads n o = ap (λ (v : Value). outcome (said (suc n) v) (leftOf reads n)) (blank-read (readMode (g .registers)) _ s x o _ m)
+  refused reads n o = ap (λ (v : Value). outcome (said (suc n) v) (leftOf reads n)) (blank-read (readMode (g .registers)) _ s x o m _ m)
   refused peeks n o = refl
   refused (writes v) n o = refl
 
   refused-by : (rule : GraphicsRegisters → ℕ → Bool → ℕ) (k : Access) (n : ℕ) → numberBy rule (g .registers) s (shape m) x page ≡ suc n
-      → cpuPerform (planBy rule (g .registers) s (shape m) x page k) g m ≡ outcome (said (suc n) (one 0)) (leftOf k n)
+      → cpuPerform (planBy rule (g .registers) s (shape m) x page k) g m ≡ outcome (said (suc n) (blankOf k)) (leftOf k n)
   refused-by rule k n e = rw e (refused k n _)
 
   -- every read, peek and write answers the same and leaves the same
@@ -231,7 +237,7 @@ pub ruledSaid : List ℕ
 ruledSaid =
     0 ∷ 0x11 ∷ 0x11 ∷ 1 ∷ 0x11 ∷ 0 ∷ 1 ∷ 0x11 ∷ 1 ∷ 1 ∷ 2 ∷ 0 ∷ 0x11 ∷ 1 ∷ 0
     ∷ 0 ∷ 0x11 ∷ 0x11 ∷ 1 ∷ 0 ∷ 0 ∷ 1 ∷ 0x11 ∷ 1 ∷ 0 ∷ 2 ∷ 0 ∷ 0x11 ∷ 1 ∷ 0
-    ∷ 0 ∷ 0 ∷ 0xFF ∷ 1 ∷ 0 ∷ 0 ∷ 0 ∷ 0x11 ∷ 0xFF ∷ 0 ∷ 2 ∷ 0 ∷ 0x11 ∷ 1 ∷ 0 ∷ []
+    ∷ 0 ∷ 6 ∷ 6 ∷ 6 ∷ 6 ∷ 0xFF ∷ 1 ∷ 0 ∷ 0 ∷ 7 ∷ 7 ∷ 7 ∷ 7 ∷ 0x11 ∷ 0xFF ∷ 0 ∷ 2 ∷ 0 ∷ 0 ∷ 0 ∷ 0 ∷ 0x11 ∷ 1 ∷ 0 ∷ []
 
 -- by the machine's rule and by the rule as written the same; a rule that leads everywhere to 1 is told by each kind of access, but not at 4000
 pub rules-told : ruled
@@ -239,7 +245,7 @@ pub rules-told : ruled
     ∷ ruledSaid
     ∷ (0 ∷ 1 ∷ 0x11 ∷ 1 ∷ 1 ∷ 0 ∷ 1 ∷ 0x11 ∷ 1 ∷ 1 ∷ 2 ∷ 0 ∷ 0x11 ∷ 1 ∷ 0
     ∷ 0 ∷ 1 ∷ 0x11 ∷ 1 ∷ 0 ∷ 0 ∷ 1 ∷ 0x11 ∷ 1 ∷ 0 ∷ 2 ∷ 0 ∷ 0x11 ∷ 1 ∷ 0
-    ∷ 0 ∷ 0 ∷ 0x11 ∷ 0xFF ∷ 0 ∷ 0 ∷ 0 ∷ 0x11 ∷ 0xFF ∷ 0 ∷ 2 ∷ 0 ∷ 0x11 ∷ 1 ∷ 0 ∷ [])
+    ∷ 0 ∷ 7 ∷ 7 ∷ 7 ∷ 7 ∷ 0x11 ∷ 0xFF ∷ 0 ∷ 0 ∷ 7 ∷ 7 ∷ 7 ∷ 7 ∷ 0x11 ∷ 0xFF ∷ 0 ∷ 2 ∷ 0 ∷ 0 ∷ 0 ∷ 0 ∷ 0x11 ∷ 1 ∷ 0 ∷ [])
     ∷ []
 unfolding ruled ruledSaid
 rules-told = refl

@@ -2,9 +2,9 @@
 use Prim.Native.Nat.{ℕ, _*_}
 use mathlib.Core.Bool.{false}
 use mathlib.Core.List.{List, [], _∷_, _++_, map}
-use lib.ListN.{replicate, take}
+use lib.ListN.{replicate, set, take}
 use Rattle.machine.specs.Memory.{Memory, mem}
-use Rattle.machine.specs.Answers.{Value, one, two, pixel, part, Said, said}
+use Rattle.machine.specs.Answers.{Value, one, two, pixel, part, changes, Said, said}
 use Rattle.machine_types.specs.Start.{freshGc, freshSeq}
 use Rattle.machine.specs.Calls.{writeU8, seqWriteAddress, seqWriteData, gcWriteAddress, gcWriteData, gcMapAddress, cpuWrite}
 use Rattle.machine.specs.Step.{State, state, Call, vram, sequencer, graphics, cpu}
@@ -27,8 +27,9 @@ told a = a .number ∷ values (a .value)
     values (two x y) = x ∷ y ∷ []
     values (pixel x) = x ∷ []
     values (part l) = l
+    values (changes a b c d) = a ∷ b ∷ c ∷ d ∷ []
 
--- an accepted answer: a number, a pixel, a show's pixels
+-- an accepted answer: a number, a pixel, a show's pixels, a store's four numbers
 abbrev pub aNumber : ℕ → Said
 aNumber x = said 0 (one x)
 
@@ -37,6 +38,13 @@ aPixel x = said 0 (pixel x)
 
 abbrev pub aShow : List ℕ → Said
 aShow l = said 0 (part l)
+
+abbrev pub aStore : ℕ → ℕ → ℕ → ℕ → Said
+aStore a b c d = said 0 (changes a b c d)
+
+-- four numbers, one for each plane: n of plane p, 0 of the others
+abbrev pub inPlane : ℕ → ℕ → List ℕ
+inPlane p n = set (replicate 4 0) p n
 
 -- a register written: its number, its data
 unfoldable pub gcTo : ℕ → ℕ → List Call

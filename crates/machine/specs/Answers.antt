@@ -6,6 +6,7 @@ use Rattle.machine_types.specs.declared.answer.Refusal.{Refusal}
 use Rattle.machine_types.specs.declared.answer.Refusal.the-variants.{Memory, Window, Offset, Plane, Place, State, Damaged, Range, Shift, Room}
 use Rattle.machine_types.specs.declared.answer.ByteAnswer.{ByteAnswer}
 use Rattle.machine_types.specs.declared.answer.ByteAnswer.the-variants.{Done as ByteDone, Refused as ByteRefused}
+use Rattle.machine_types.specs.declared.answer.Changed.{Changed}
 use Rattle.machine_types.specs.declared.answer.StoreAnswer.{StoreAnswer}
 use Rattle.machine_types.specs.declared.answer.StoreAnswer.the-variants.{Done as StoreDone, Refused as StoreRefused}
 use Rattle.machine_types.specs.declared.answer.DoneAnswer.{DoneAnswer}
@@ -54,13 +55,20 @@ pub data Value : Type 0 where
   pixel : ℕ → Value
   -- a show: a part of the picture
   part : List ℕ → Value
+  -- K6, a store: how many bits of each plane's byte changed, plane 0 first
+  changes : ℕ → ℕ → ℕ → ℕ → Value
 
--- a refusal carries value 0 (`map_address`: both numbers 0; a show: an empty part)
+-- the four numbers of a store, by plane
+abbrev pub changesOf : (ℕ → ℕ) → Value
+changesOf f = changes (f 0) (f 1) (f 2) (f 3)
+
+-- a refusal carries value 0 (`map_address`: both numbers 0; a show: an empty part; a store: four times 0)
 abbrev pub blank : Value → Value
 blank (one x) = one 0
 blank (two x y) = two 0 0
 blank (pixel x) = pixel 0
 blank (part l) = part []
+blank (changes a b c d) = changes 0 0 0 0
 
 -- the pixels that a show hands back; no other value has any
 abbrev pub pixelsOf : Value → List ℕ
@@ -68,6 +76,7 @@ pixelsOf (one x) = []
 pixelsOf (two x y) = []
 pixelsOf (pixel x) = []
 pixelsOf (part l) = l
+pixelsOf (changes a b c d) = []
 
 -- an answer: 0 or a refusal's number, and its value
 pub record Said : Type 0 where
@@ -123,10 +132,14 @@ abbrev pub pixelSaid : ByteAnswer → Said
 pixelSaid (ByteDone x) = said 0 (pixel x)
 pixelSaid (ByteRefused r) = said (refusalNumber r) (pixel 0)
 
--- a store hands nothing back
+-- the code's four numbers
+abbrev pub changedValue : Changed → Value
+changedValue x = changes (x .p0) (x .p1) (x .p2) (x .p3)
+
+-- a store: its four numbers; all 0 where refused
 abbrev pub storeSaid : StoreAnswer → Said
-storeSaid StoreDone = said 0 (one 0)
-storeSaid (StoreRefused r) = said (refusalNumber r) (one 0)
+storeSaid (StoreDone x) = said 0 (changedValue x)
+storeSaid (StoreRefused r) = said (refusalNumber r) (changes 0 0 0 0)
 
 -- a register write and `deplane` hand nothing back
 abbrev pub doneSaid : DoneAnswer → Said

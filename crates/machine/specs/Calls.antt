@@ -21,7 +21,7 @@ use Rattle.machine_types.specs.Start.{freshGc, freshSeq}
 use Rattle.machine.specs.Sequencer.{withSeqAddress, withSeqData, seqDataOf, withMark, fitsSeq, inMask, storedAt, gcReadAt}
 use Rattle.machine.specs.Address.{inWindow, a0, offset}
 use Rattle.machine.specs.DataPath.{writtenBit, visits, selectedPlane, peekedPlane}
-use Rattle.machine.specs.Deeds.{Deed, rest, load, store, remake, Reply, known, byteAt, compare, pixelAt, pixelsAt, Plan, plan}
+use Rattle.machine.specs.Deeds.{Deed, rest, load, store, remake, Reply, known, byteAt, compare, pixelAt, pixelsAt, changesAt, Plan, plan}
 
 -- ---- refusals
 
@@ -91,17 +91,17 @@ storeOne f p o w x = store o (λ q. eqb q p && w q) (λ q i l old. f (bit i x) o
 abbrev pub unmasked : ℕ → Bool
 unmasked p = true
 
--- each call's refusals, deed and reply; direct plane reads answer the plane's byte at the offset
+-- each call's refusals, deed and reply; direct plane reads answer the plane's byte at the offset, stores (K6) how much each plane changed there
 unfoldable pub vramPlan : Shape → VramCall → Plan
 vramPlan h (readU8 p o) = plan (planeNumber h p o) rest (byteAt p o)
 vramPlan h (peekU8 p o) = plan (planeNumber h p o) rest (byteAt p o)
 vramPlan h (readGlyph o) = plan (offsetNumber h o) rest (byteAt 2 o)
 vramPlan h (readLinear j) = plan (placeNumber h j) rest (pixelAt j)
 vramPlan h (serializeLinear o) = plan (shownNumber h o) rest (pixelsAt (8 * o))
-vramPlan h (writeU8 p o x) = plan (planeNumber h p o) (storeOne setBit p o unmasked x) (known (one 0))
-vramPlan h (planeSet p o x) = plan (planeNumber h p o) (storeOne setBit p o unmasked x) (known (one 0))
-vramPlan h (planeAnd p o x) = plan (planeNumber h p o) (storeOne andBit p o unmasked x) (known (one 0))
-vramPlan h (planeOr p o x) = plan (planeNumber h p o) (storeOne orBit p o unmasked x) (known (one 0))
+vramPlan h (writeU8 p o x) = plan (planeNumber h p o) (storeOne setBit p o unmasked x) (changesAt o)
+vramPlan h (planeSet p o x) = plan (planeNumber h p o) (storeOne setBit p o unmasked x) (changesAt o)
+vramPlan h (planeAnd p o x) = plan (planeNumber h p o) (storeOne andBit p o unmasked x) (changesAt o)
+vramPlan h (planeOr p o x) = plan (planeNumber h p o) (storeOne orBit p o unmasked x) (changesAt o)
 vramPlan h (deplane o) = plan (offsetNumber h o) (remake o) (known (one 0))
 
 -- ---- calls on the sequencer's record (sequencer.rs)
@@ -158,16 +158,16 @@ pub data DirectCall : Type 0 where
   -- plane, offset, a0, byte
   seqPlaneSet seqPlaneAnd seqPlaneOr : ℕ → ℕ → Bool → ℕ → DirectCall
 
--- the sequencer's direct stores use its mask; its plane reads take the offset as it stands, `gc_read_u8` excepted
+-- the sequencer's direct stores use its mask and answer for the offset that they store at; its plane reads take the offset as it stands, `gc_read_u8` excepted
 unfoldable pub directPlan : Sequencer → Shape → DirectCall → Plan
 directPlan s h (seqCpuReadU8 p o a) = plan (refuse (fitsSeq s) 6 (planeNumber h p o)) rest (byteAt p o)
 directPlan s h (seqPeekU8 p o a) = plan (refuse (fitsSeq s) 6 (planeNumber h p o)) rest (byteAt p o)
 directPlan s h (seqGcReadU8 p o a) = plan (refuse (fitsSeq s) 6 (planeNumber h p o)) rest (byteAt p (gcReadAt s o))
 directPlan s h (seqReadLinear j) = plan (refuse (fitsSeq s) 6 (placeNumber h j)) rest (pixelAt j)
 directPlan s h (seqSerializeLinear o) = plan (refuse (fitsSeq s) 6 (shownNumber h o)) rest (pixelsAt (8 * o))
-directPlan s h (seqPlaneSet p o a x) = plan (refuse (fitsSeq s) 6 (planeNumber h p o)) (storeOne setBit p (storedAt s o) (inMask s o a) x) (known (one 0))
-directPlan s h (seqPlaneAnd p o a x) = plan (refuse (fitsSeq s) 6 (planeNumber h p o)) (storeOne andBit p (storedAt s o) (inMask s o a) x) (known (one 0))
-directPlan s h (seqPlaneOr p o a x) = plan (refuse (fitsSeq s) 6 (planeNumber h p o)) (storeOne orBit p (storedAt s o) (inMask s o a) x) (known (one 0))
+directPlan s h (seqPlaneSet p o a x) = plan (refuse (fitsSeq s) 6 (planeNumber h p o)) (storeOne setBit p (storedAt s o) (inMask s o a) x) (changesAt (storedAt s o))
+directPlan s h (seqPlaneAnd p o a x) = plan (refuse (fitsSeq s) 6 (planeNumber h p o)) (storeOne andBit p (storedAt s o) (inMask s o a) x) (changesAt (storedAt s o))
+directPlan s h (seqPlaneOr p o a x) = plan (refuse (fitsSeq s) 6 (planeNumber h p o)) (storeOne orBit p (storedAt s o) (inMask s o a) x) (changesAt (storedAt s o))
 
 -- ---- calls on the controller's record (graphics_controller.rs)
 
@@ -327,5 +327,6 @@ unfoldable pub cpuPlan : GraphicsRegisters → Sequencer → Shape → CpuCall �
 cpuPlan r s h (cpuRead x page) =
     cpuPlanOf (plan (accessNumber r s h x page) (load (storedAt s (offset r x page))) (readReply (readMode r) r s x (offset r x page))) (readCounter (readMode r)) refusedCounter
 cpuPlan r s h (cpuPeek x page) = cpuPlanOf (plan (accessNumber r s h x page) rest (byteAt (peekedPlane s (offset r x page)) (storedAt s (offset r x page)))) noCounter noCounter
-cpuPlan r s h (cpuWrite x page v) = cpuPlanOf (plan (accessNumber r s h x page) (writeDeed (writeMode r) r s x (offset r x page) v) (known (one 0))) (writeCounter (writeMode r)) refusedCounter
+cpuPlan r s h (cpuWrite x page v) =
+    cpuPlanOf (plan (accessNumber r s h x page) (writeDeed (writeMode r) r s x (offset r x page) v) (changesAt (storedAt s (offset r x page)))) (writeCounter (writeMode r)) refusedCounter
 cpuPlan r s h (serialize o) = cpuPlanOf (plan (showNumber r s h o) rest (pixelsAt (8 * o))) noCounter noCounter

@@ -19,7 +19,7 @@ use Rattle.machine.specs.Memory.{Memory, shape, Shaped}
 use Rattle.machine.specs.Answers.{blank, Outcome}
 use Rattle.machine.specs.Graphics.{shiftMode, memoryMap}
 use Rattle.machine.specs.Address.{offset}
-use Rattle.machine.specs.Deeds.{Deed, rest, load, store, remake, pixelOf, any}
+use Rattle.machine.specs.Deeds.{Deed, rest, load, store, remake, byte, pixelOf, storedByte, any, changedBits}
 use Rattle.machine.specs.Calls.{VramCall, readU8, peekU8, readGlyph, readLinear, serializeLinear, writeU8, planeSet, planeAnd, planeOr, deplane, vramPlan}
 use Rattle.machine.specs.Calls.{SequencerCall, seqReset, seqClock, seqSetClockChangePending, seqPollClockChange, seqReadAddress, seqReadData, seqWriteAddress, seqWriteData}
 use Rattle.machine.specs.Calls.{DirectCall, seqCpuReadU8, seqPeekU8, seqGcReadU8, seqReadLinear, seqSerializeLinear, seqPlaneSet, seqPlaneAnd, seqPlaneOr, directPlan}
@@ -290,6 +290,54 @@ tally = tallyWhere inSix
 -- those that the seven count
 abbrev pub sevenTally : ℕ → State → List Call → ℕ
 sevenTally = tallyWhere inSeven
+
+-- ---- `changes-counted`
+
+-- K6: vram's four stores ..
+abbrev pub vramStores : VramCall → Bool
+vramStores (readU8 p o) = false
+vramStores (peekU8 p o) = false
+vramStores (readGlyph o) = false
+vramStores (readLinear j) = false
+vramStores (serializeLinear o) = false
+vramStores (writeU8 p o x) = true
+vramStores (planeSet p o x) = true
+vramStores (planeAnd p o x) = true
+vramStores (planeOr p o x) = true
+vramStores (deplane o) = false
+
+-- .. the sequencer's three ..
+abbrev pub directStores : DirectCall → Bool
+directStores (seqCpuReadU8 p o a) = false
+directStores (seqPeekU8 p o a) = false
+directStores (seqGcReadU8 p o a) = false
+directStores (seqReadLinear j) = false
+directStores (seqSerializeLinear o) = false
+directStores (seqPlaneSet p o a x) = true
+directStores (seqPlaneAnd p o a x) = true
+directStores (seqPlaneOr p o a x) = true
+
+-- .. and the processor's write
+abbrev pub cpuStores : CpuCall → Bool
+cpuStores (cpuRead x page) = false
+cpuStores (cpuPeek x page) = false
+cpuStores (cpuWrite x page v) = true
+cpuStores (serialize o) = false
+
+-- the eight calls that answer how much changed
+abbrev pub isStore : Call → Bool
+isStore (vram c) = vramStores c
+isStore (sequencer c) = false
+isStore (direct c) = directStores c
+isStore (graphics c) = false
+isStore (cpu c) = cpuStores c
+
+-- K6's words, by the deed: the bits of the byte put down that differ from the old one's; 0 "when the mask stopped it or the plane was not visited"
+unfoldable pub changedBy : Deed → List ℕ → Memory → ℕ → ℕ
+changedBy rest l m p = 0
+changedBy (load o) l m p = 0
+changedBy (store o w f) l m p = pick (w p) (changedBits (byte m p o) (storedByte o f l m p)) 0
+changedBy (remake o) l m p = 0
 
 -- ---- `picture-matches`, `pixels-stay`
 

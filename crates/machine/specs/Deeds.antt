@@ -5,9 +5,9 @@ use mathlib.Core.List.{List, [], _∷_}
 use lib.Dec.{eqb}
 use lib.ListN.{getD, set, take, drop}
 use lib.Seq.{sets}
-use Rattle.bits.specs.Bit.{bit, ofBits, byteOf, isOne, bitOf, pick, every}
+use Rattle.bits.specs.Bit.{bit, ofBits, sumOf, byteOf, isOne, bitOf, pick, every}
 use Rattle.machine.specs.Memory.{Memory, mem, plane, planes}
-use Rattle.machine.specs.Answers.{Value, one, pixel, part, Outcome, answered}
+use Rattle.machine.specs.Answers.{Value, one, pixel, part, changesOf, Outcome, answered}
 
 -- what a call may do to latches and memory
 pub data Deed : Type 0 where
@@ -32,6 +32,8 @@ pub data Reply : Type 0 where
   pixelAt : ℕ → Reply
   -- the eight pixels from a place on
   pixelsAt : ℕ → Reply
+  -- K6: how many bits of each plane's byte at an offset the deed changed
+  changesAt : ℕ → Reply
 
 -- a call's plan: 0 or its refusal, its deed, its reply. No plan is made from a latch, a plane's byte or a pixel
 pub record Plan : Type 0 where
@@ -93,6 +95,20 @@ agrees care colour l i p = pick (isOne (bit p care)) (eqb (bit i (latch l p)) (b
 unfoldable pub compared : ℕ → ℕ → List ℕ → ℕ
 compared care colour l = byteOf (λ i. bitOf (every 4 (agrees care colour l i)))
 
+-- ---- K6: how much changed
+
+-- whether bit i of two bytes differs: 1 where it does
+abbrev pub changedBit : ℕ → ℕ → ℕ → ℕ
+changedBit old new i = pick (eqb (bit i old) (bit i new)) 0 1
+
+-- "how many of its eight bits changed, counted from the old and new byte"
+unfoldable pub changedBits : ℕ → ℕ → ℕ
+changedBits old new = sumOf 8 (changedBit old new)
+
+-- a plane's number: of its byte at an offset, before and after. 0 where the byte stays, as of a plane that the mask stopped or that was not visited
+unfoldable pub changedAt : Memory → Memory → ℕ → ℕ → ℕ
+changedAt was m o p = changedBits (byte was p o) (byte m p o)
+
 -- ---- a deed done, a reply given
 
 -- an accepted read loads the latches; nothing else moves them
@@ -109,14 +125,15 @@ memoryAfter (load o) l m = m
 memoryAfter (store o w f) l m = stored o w (storedByte o f l m) m
 memoryAfter (remake o) l m = remade o m
 
--- a show hands back the caller's own eight pixels
-unfoldable pub valueOf : Reply → List ℕ → Memory → Value
-valueOf (known v) l m = v
-valueOf (byteAt p o) l m = one (byte m p o)
-valueOf (compare care colour) l m = one (compared care colour l)
-valueOf (pixelAt j) l m = pixel (getD (m .picture) j 0)
-valueOf (pixelsAt j) l m = part (take 8 (drop j (m .picture)))
+-- from the memory before the deed, and from latches and memory after it. A show hands back the caller's own eight pixels
+unfoldable pub valueOf : Reply → Memory → List ℕ → Memory → Value
+valueOf (known v) was l m = v
+valueOf (byteAt p o) was l m = one (byte m p o)
+valueOf (compare care colour) was l m = one (compared care colour l)
+valueOf (pixelAt j) was l m = pixel (getD (m .picture) j 0)
+valueOf (pixelsAt j) was l m = part (take 8 (drop j (m .picture)))
+valueOf (changesAt o) was l m = changesOf (changedAt was m o)
 
 -- a plan carried out on memory alone, with no latches at hand
 unfoldable pub perform : Plan → Memory → Outcome Memory
-perform a m = answered (a .number) (valueOf (a .reply) [] (memoryAfter (a .deed) [] m)) (memoryAfter (a .deed) [] m) m
+perform a m = answered (a .number) (valueOf (a .reply) m [] (memoryAfter (a .deed) [] m)) (memoryAfter (a .deed) [] m) m

@@ -4,15 +4,16 @@ use mathlib.Core.Logic.{_≢_}
 use mathlib.Core.Path.{_≡_}
 use mathlib.Core.Bool.{Bool}
 use mathlib.Core.List.{List, [], _∷_, map}
+use lib.Dec.{eqb}
 use lib.ListN.{length}
-use Rattle.bits.specs.Bit.{bit}
+use Rattle.bits.specs.Bit.{bit, pick}
 use Rattle.machine_types.specs.declared.gc.GraphicsRegisters.{GraphicsRegisters}
 use Rattle.machine_types.specs.declared.gc.GraphicsController.{GraphicsController}
 use Rattle.machine_types.specs.declared.gc.ReadMode.{ReadMode}
 use Rattle.machine_types.specs.declared.gc.ReadMode.the-variants.{ReadSelectedPlane, ReadComparedPlanes}
 use Rattle.machine_types.specs.declared.seq.Sequencer.{Sequencer}
 use Rattle.machine.specs.Memory.{Memory, plane}
-use Rattle.machine.specs.Answers.{Value, one, two, pixel, part, Said, said, Outcome}
+use Rattle.machine.specs.Answers.{Value, one, two, pixel, part, changes, changesOf, Said, said, Outcome}
 use Rattle.machine.specs.Graphics.{readMode}
 use Rattle.machine.specs.Address.{offset}
 use Rattle.machine.specs.DataPath.{selectedPlane, peekedPlane}
@@ -176,13 +177,14 @@ Along P s (c ∷ cs) = P s c × Along P (step s c .next) cs
 
 -- ---- the conclusion
 
--- pixels handed out may differ in bit k only
+-- pixels handed out may differ in bit k only, the four numbers of a store in plane k's only (K6)
 pub data AlikeValue (k : ℕ) : Value → Value → Type 0 where
   same : {v : Value} → AlikeValue k v v
   pixels : {x y : ℕ} → Agree k x y → AlikeValue k (pixel x) (pixel y)
   parts : {l u : List ℕ} → Both (Agree k) l u → AlikeValue k (part l) (part u)
+  numbers : {f g : ℕ → ℕ} → ((p : ℕ) → p ≢ k → f p ≡ g p) → AlikeValue k (changesOf f) (changesOf g)
 
--- answers and refusals agree, values but for bit k of pixels
+-- answers and refusals agree, values but for bit k of pixels and plane k's number of a store
 pub record AlikeSaid (k : ℕ) (a b : Said) : Type 0 where
   pub number : a .number ≡ b .number
   pub value : AlikeValue k (a .value) (b .value)
@@ -201,7 +203,11 @@ Throughout k s t (c ∷ cs) = Alike k s t × Together k (Alike k) (step s c) (st
 unfoldable pub less : ℕ → ℕ → ℕ
 less k x = x / 2 ^ suc k * 2 ^ suc k + x % 2 ^ k
 
--- what is handed out, less bit k of each pixel
+-- a plane's number of a store, none of plane k
+unfoldable pub lessOf : ℕ → ℕ → ℕ → ℕ
+lessOf k p x = pick (eqb p k) 0 x
+
+-- what is handed out, less bit k of each pixel and less plane k's number of a store
 unfoldable pub lessSaid : ℕ → Said → Said
 lessSaid k a = said (a .number) (lessValue (a .value))
   where
@@ -210,3 +216,4 @@ lessSaid k a = said (a .number) (lessValue (a .value))
     lessValue (two x y) = two x y
     lessValue (pixel x) = pixel (less k x)
     lessValue (part l) = part (map (less k) l)
+    lessValue (changes a b c d) = changes (lessOf k 0 a) (lessOf k 1 b) (lessOf k 2 c) (lessOf k 3 d)

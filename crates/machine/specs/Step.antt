@@ -45,9 +45,9 @@ cpuAfter a g m = device (gcOf (g .registers) (counted (a .counter) (g .stats)) (
 abbrev pub cpuRefused : CpuPlan → GraphicsController → Memory → Device
 cpuRefused a g m = device (gcOf (g .registers) (counted (refusalCounter (a .ask .number) (a .turnedAway)) (g .stats)) (g .latches)) m
 
--- the reply is made after the deed: a compare read sees the latches that it loaded
+-- the reply is made after the deed: a compare read sees the latches that it loaded, a write both memories
 abbrev pub cpuAnswered : Plan → Device → Device → Outcome Device
-cpuAnswered a new old = answered (a .number) (valueOf (a .reply) (new .gc .latches) (new .memory)) new old
+cpuAnswered a new old = answered (a .number) (valueOf (a .reply) (old .memory) (new .gc .latches) (new .memory)) new old
 
 -- a plan of the processor's carried out
 abbrev pub cpuPerform : CpuPlan → GraphicsController → Memory → Outcome Device

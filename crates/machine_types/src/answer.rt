@@ -36,9 +36,17 @@ pub enum ByteAnswer {
     Refused(Refusal),
 }
 
+// How many of the eight bits of each plane's byte a store changed.
+pub struct Changed {
+    pub p0: u8,
+    pub p1: u8,
+    pub p2: u8,
+    pub p3: u8,
+}
+
 // A store into planes.
 pub enum StoreAnswer {
-    Done,
+    Done(Changed),
     Refused(Refusal),
 }
 

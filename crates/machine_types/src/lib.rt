@@ -6,6 +6,7 @@ mod seq;
 mod shape;
 
 pub use answer::ByteAnswer;
+pub use answer::Changed;
 pub use answer::ClockAnswer;
 pub use answer::CpuByte;
 pub use answer::CpuStore;

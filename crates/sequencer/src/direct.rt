@@ -5,13 +5,14 @@ ghost use mathlib.Core.List.{[]};
 ghost use Prim.Native.Nat.{_<_, _≤_};
 ghost use lib.ListN.{length};
 ghost use Rattle.machine.specs.Memory.{lent, before, after, Shaped};
-ghost use Rattle.machine.specs.Answers.{outcome, storeSaid};
-ghost use Rattle.machine.specs.Deeds.{memoryAfter};
+ghost use Rattle.machine.specs.Answers.{changesOf, changedValue, outcome, storeSaid};
+ghost use Rattle.machine.specs.Deeds.{changedAt, memoryAfter};
 ghost use Rattle.machine.specs.Sequencer.{fitsSeq, inMask, storedAt};
 ghost use Rattle.machine.specs.Calls.{storeOne, seqPlaneSet, seqPlaneAnd, seqPlaneOr};
 ghost use Rattle.machine.specs.Step.{directStep};
 ghost use Rattle.vram_planes.specs.Stores.{storeBit};
 ghost use Rattle.sequencer.specs.Direct.{directStoreCall};
+use machine_types::Changed;
 use machine_types::DoneAnswer;
 use machine_types::PlaneOffset;
 use machine_types::Sequencer;
@@ -20,8 +21,10 @@ use machine_types::StoreAnswer;
 use refusals_access::judge_direct;
 use sequencer_masks::inner;
 use vram_planes::PlaneStore;
+use vram_planes::changed::unchanged;
+use vram_planes::inner::store;
 
-// A store, already judged: where the mask has the plane, its byte and its eight pixels; else nothing.
+// A store, already judged, and how much it changed: where the mask has the plane, its byte and its eight pixels; else nothing.
 fn store_masked(
     seq: Sequencer,
     p0: &mut [u8],
@@ -34,15 +37,17 @@ fn store_masked(
     a0: bool,
     kind: PlaneStore,
     byte: u8,
-)
+) -> Changed
     requires { ⌜ Shaped (lent p0 p1 p2 p3 picture) × ((offset < length (now p0)) × ((plane ≤ 3) × (fitsSeq seq ≡ true))) ⌝ }
-    ensures { λ _. ⌜ after p0 p1 p2 p3 picture ≡ memoryAfter (storeOne (storeBit kind) plane (storedAt seq offset) (inMask seq offset a0) byte) [] (before p0 p1 p2 p3 picture) ⌝ }
+    ensures { λ r. ⌜ (after p0 p1 p2 p3 picture ≡ memoryAfter (storeOne (storeBit kind) plane (storedAt seq offset) (inMask seq offset a0) byte) [] (before p0 p1 p2 p3 picture))
+        × (changedValue r ≡ changesOf (changedAt (before p0 p1 p2 p3 picture) (after p0 p1 p2 p3 picture) (storedAt seq offset))) ⌝ }
 {
     let mask = inner::mask(seq, offset, a0);
     if mask & (1 << plane) != 0 {
         let at = inner::stored_at(seq, offset);
-        vram_planes::inner::store(p0, p1, p2, p3, picture, plane, at, kind, byte);
+        return store(p0, p1, p2, p3, picture, plane, at, kind, byte);
     }
+    unchanged()
 }
 
 // The three direct stores in one: judged, then stored through the mask.
@@ -66,8 +71,8 @@ fn plane_store(
         DoneAnswer::Refused(x) => StoreAnswer::Refused(x),
         DoneAnswer::Done => {
             let at = offset.0;
-            store_masked(seq, p0, p1, p2, p3, picture, plane, at, a0, kind, byte);
-            StoreAnswer::Done
+            let changed = store_masked(seq, p0, p1, p2, p3, picture, plane, at, a0, kind, byte);
+            StoreAnswer::Done(changed)
         }
     }
 }

@@ -16,7 +16,7 @@ use Rattle.bits.proofs.Decide.{agree1, agree2}
 use Rattle.machine_types.specs.declared.seq.Sequencer.{Sequencer}
 use Rattle.machine_types.specs.declared.seq.OddEvenMode.the-variants.{OddEven, Sequential}
 use Rattle.machine.specs.Sequencer.{fitsSeq, seqOddEven, isSeqOddEven, chainFour, inMask, storedAt, gcReadAt}
-use Rattle.machine.proofs.Laws.{both}
+use Rattle.machine.proofs.Laws.{both, stored-at-le}
 use Rattle.sequencer_masks.specs.Mask.{maskOf}
 
 -- ---- where chain-four leads
@@ -25,15 +25,7 @@ use Rattle.sequencer_masks.specs.Mask.{maskOf}
 pub cleared : (x : ℕ) → x < 2 ^ 64 → bitAnd x (2 ^ 64 - 4) ≡ x / 4 * 4
 cleared x h = and-high x 62 2 ∙ ap (λ (q : ℕ). q * 4) (mod-eq-of-lt (omega arith))
 
--- never past the offset that was judged, so within the plane where that is
-pub stored-at-le : (s : Sequencer) (o : ℕ) → storedAt s o ≤ o
-unfolding storedAt
-stored-at-le s o = go (chainFour s)
-  where
-    go : (b : Bool) → pick b (o / 4 * 4) o ≤ o
-    go true = omega arith
-    go false = omega arith
-
+-- never past the offset that was judged
 pub gc-read-at-le : (s : Sequencer) (o : ℕ) → gcReadAt s o ≤ o
 unfolding gcReadAt storedAt
 gc-read-at-le s o = go (isSeqOddEven (seqOddEven s))
@@ -41,9 +33,6 @@ gc-read-at-le s o = go (isSeqOddEven (seqOddEven s))
     go : (b : Bool) → pick b o (storedAt s o) ≤ o
     go true = omega arith
     go false = stored-at-le s o
-
-pub stored-at-lt : (s : Sequencer) (o : ℕ) {at n : ℕ} → at ≡ storedAt s o → o < n → at < n
-stored-at-lt s o e h = omega (arith, stored-at-le s o)
 
 -- ---- the mask
 

@@ -4,10 +4,10 @@ use contract.Lifetimes.{Lfts}
 use denote.Triple.Clauses.{AtExit}
 use borrow.Fn.Kinds.{Dens, endedOf}
 use Rattle.machine.specs.Memory.{Memory, lent}
-use Rattle.machine.specs.Answers.{Value, one, two, pixel, part, Outcome, outcome}
+use Rattle.machine.specs.Answers.{Value, one, two, pixel, part, changes, Outcome, outcome}
 use Rattle.machine.specs.Step.{State, state}
 use Rattle.tape_machine.specs.declared.told.Handed.{Handed}
-use Rattle.tape_machine.specs.declared.told.Handed.the-variants.{Byte, Pixels, Nothing}
+use Rattle.tape_machine.specs.declared.told.Handed.the-variants.{Byte, Pixels, Nothing, Changes}
 use Rattle.tape_calls.specs.declared.calls.Performed.{Performed}
 use Rattle.tape_machine.specs.Told.{handedValue, toldSaid, handedOf}
 use Rattle.machine_types.proofs.OneAnswer.{OneOutcome}
@@ -21,12 +21,14 @@ handedBack (one x) = Byte x
 handedBack (two x y) = Nothing
 handedBack (pixel x) = Nothing
 handedBack (part l) = handedOf l
+handedBack (changes a b c d) = Changes (record { p0 = a; p1 = b; p2 = c; p3 = d })
 
 handed-back : (h : Handed) → handedBack (handedValue h) ≡ h
 unfolding handedBack handedOf
 handed-back (Byte x) = refl
 handed-back (Pixels x) = refl
 handed-back Nothing = refl
+handed-back (Changes x) = refl
 
 performedBack : Outcome State → Performed
 performedBack o = record { told = record { number = o .answer .number; handed = handedBack (o .answer .value) }; gc = o .next .gc; seq = o .next .seq }

@@ -15,6 +15,7 @@ use tape_machine::Eight;
 use tape_machine::Handed;
 use tape_machine::Told;
 use tape_machine::of_answer;
+use tape_machine::of_store;
 use tape_records::Command;
 
 // What was answered, and both records as they are left.
@@ -121,7 +122,7 @@ fn write(
     let answer = wrote.answer;
     let next = wrote.gc;
     Performed {
-        told: of_answer(answers::of_store(answer)),
+        told: of_store(answer),
         gc: next,
         seq,
     }

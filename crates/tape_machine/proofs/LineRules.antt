@@ -1,10 +1,11 @@
--- Lines that document 01's example does not reach, computed: an unread operation, the two faults, every hexadecimal digit, a refused show, a byte.
+-- Lines that document 01's example does not reach, computed: an unread operation, the two faults, every hexadecimal digit, a refused show, a byte, a write that changed
+-- every bit, and one that was refused.
 use Prim.Native.Nat.{ℕ}
 use mathlib.Core.Path.{_≡_, refl}
 use mathlib.Core.List.{List, [], _∷_}
 use Rattle.tape_records.specs.declared.records.Operation.the-variants.{Unread, Was}
 use Rattle.tape_records.specs.declared.records.Fault.the-variants.{Open, Damage, Range as OutOfRange}
-use Rattle.tape_machine.specs.declared.told.Handed.the-variants.{Byte}
+use Rattle.tape_machine.specs.declared.told.Handed.the-variants.{Byte, Changes}
 use Rattle.tape_machine.specs.Told.{toldSaid, handedOf}
 use Rattle.tape_machine.specs.Text.{digitsOf, decimalOf, fieldOf, hexOf}
 use Rattle.tape_machine.specs.Lines.{nameOf, valueText, lineOf}
@@ -21,6 +22,8 @@ lines =
     ∷ lineOf 7 (Was 8) (toldSaid (record { number = 0; handed = handedOf (4 ∷ 5 ∷ 6 ∷ 7 ∷ 8 ∷ 9 ∷ 13 ∷ 14 ∷ []) }))
     ∷ lineOf 5 (Was 8) (toldSaid (record { number = 9; handed = handedOf [] }))
     ∷ lineOf 6 (Was 5) (toldSaid (record { number = 0; handed = Byte 255 }))
+    ∷ lineOf 8 (Was 6) (toldSaid (record { number = 0; handed = Changes (record { p0 = 8; p1 = 8; p2 = 8; p3 = 8 }) }))
+    ∷ lineOf 9 (Was 6) (toldSaid (record { number = 3; handed = Changes (record { p0 = 0; p1 = 0; p2 = 0; p3 = 0 }) }))
     ∷ []
 
 -- what the document says, a character a number
@@ -33,6 +36,8 @@ linesSaid =
     ∷ (55 ∷ 32 ∷ 56 ∷ 32 ∷ 48 ∷ 32 ∷ 52 ∷ 53 ∷ 54 ∷ 55 ∷ 56 ∷ 57 ∷ 68 ∷ 69 ∷ 10 ∷ [])
     ∷ (53 ∷ 32 ∷ 56 ∷ 32 ∷ 57 ∷ 32 ∷ 48 ∷ 10 ∷ [])
     ∷ (54 ∷ 32 ∷ 53 ∷ 32 ∷ 48 ∷ 32 ∷ 50 ∷ 53 ∷ 53 ∷ 10 ∷ [])
+    ∷ (56 ∷ 32 ∷ 54 ∷ 32 ∷ 48 ∷ 32 ∷ 48 ∷ 10 ∷ [])
+    ∷ (57 ∷ 32 ∷ 54 ∷ 32 ∷ 51 ∷ 32 ∷ 48 ∷ 10 ∷ [])
     ∷ []
 
 pub line-rules : lines ≡ linesSaid

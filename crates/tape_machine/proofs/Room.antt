@@ -6,7 +6,7 @@ use mathlib.Core.List.{List, [], _∷_, _++_}
 use lib.Dec.{ltb}
 use lib.ListN.{length, take, length-append, length-map, length-take}
 use Rattle.bits.specs.Bit.{pick}
-use Rattle.machine.specs.Answers.{Value, one, two, pixel, part, Said}
+use Rattle.machine.specs.Answers.{Value, one, two, pixel, part, changes, Said}
 use Rattle.machine.specs.Step.{State}
 use Rattle.tape_records.specs.declared.records.Operation.{Operation}
 use Rattle.tape_records.specs.declared.records.Operation.the-variants.{Unread, Was}
@@ -47,6 +47,7 @@ value-length (two x y) = decimal-length x
 value-length (pixel x) = decimal-length x
 value-length (part []) = decimal-length 0
 value-length (part (x ∷ l)) = omega (arith, length-map (take 8 (x ∷ l)) hexOf, length-take 8 (x ∷ l))
+value-length (changes a b c d) = decimal-length 0
 
 line-length : (k : ℕ) (o : Operation) (a : Said) → length (lineOf k o a) ≤ longest
 unfolding lineOf

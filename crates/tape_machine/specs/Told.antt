@@ -4,21 +4,22 @@ use Prim.Native.Nat.{ℕ}
 use lib.Dec.{eqb}
 use lib.ListN.{length, getD}
 use Rattle.bits.specs.Bit.{pick}
-use Rattle.machine.specs.Answers.{Value, one, part, Said, said}
+use Rattle.machine.specs.Answers.{Value, one, part, changedValue, Said, said}
 use Rattle.tape_machine.specs.declared.told.Eight.{Eight}
 use Rattle.tape_machine.specs.declared.told.Handed.{Handed}
-use Rattle.tape_machine.specs.declared.told.Handed.the-variants.{Byte, Pixels, Nothing}
+use Rattle.tape_machine.specs.declared.told.Handed.the-variants.{Byte, Pixels, Nothing, Changes}
 use Rattle.tape_machine.specs.declared.told.Told.{Told}
 
 -- the eight pixels of a show, as a list
 abbrev pub eightPixels : Eight → List ℕ
 eightPixels x = x .a ∷ x .b ∷ x .c ∷ x .d ∷ x .e ∷ x .f ∷ x .g ∷ x .h ∷ []
 
--- what was handed back, as the machine's value: a byte, a show's part, or the empty part of a refused show
+-- what was handed back, as the machine's value: a byte, a show's part, the empty part of a refused show, or a write's four numbers
 abbrev pub handedValue : Handed → Value
 handedValue (Byte x) = one x
 handedValue (Pixels x) = part (eightPixels x)
 handedValue Nothing = part []
+handedValue (Changes x) = changedValue x
 
 -- an answer as the machine's number and value
 abbrev pub toldSaid : Told → Said

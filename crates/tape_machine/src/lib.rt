@@ -7,3 +7,4 @@ pub use told::Eight;
 pub use told::Handed;
 pub use told::Told;
 pub use told::of_answer;
+pub use told::of_store;

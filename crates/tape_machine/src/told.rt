@@ -1,8 +1,11 @@
 // What a record's call answers: its number, and what it hands back.
 ghost use mathlib.Core.Path.{_≡_};
+ghost use Rattle.machine.specs.Answers.{storeSaid};
 ghost use Rattle.answers.specs.Answers.{answerSaid};
 ghost use Rattle.tape_machine.specs.Told.{toldSaid};
 use answers::Answer;
+use machine_types::Changed;
+use machine_types::StoreAnswer;
 
 // The eight pixels of a show.
 pub struct Eight {
@@ -23,6 +26,8 @@ pub enum Handed {
     Pixels(Eight),
     // A refused show.
     Nothing,
+    // A write: how much of each plane changed. A line does not tell it.
+    Changes(Changed),
 }
 
 pub struct Told {
@@ -30,12 +35,33 @@ pub struct Told {
     pub handed: Handed,
 }
 
-// The answer of any call but a show, in numbers, as a record's.
+// The answer of any call but a show and a write, in numbers, as a record's.
 pub fn of_answer(answer: Answer) -> Told
     ensures { λ r. ⌜ toldSaid r ≡ answerSaid answer ⌝ }
 {
     Told {
         number: answer.number,
         handed: Handed::Byte(answer.value),
+    }
+}
+
+// The answer of a write, as a record's.
+pub fn of_store(answer: StoreAnswer) -> Told
+    ensures { λ r. ⌜ toldSaid r ≡ storeSaid answer ⌝ }
+{
+    match answer {
+        StoreAnswer::Done(changed) => Told {
+            number: 0,
+            handed: Handed::Changes(changed),
+        },
+        StoreAnswer::Refused(x) => Told {
+            number: fields::refusal_number(x),
+            handed: Handed::Changes(Changed {
+                p0: 0,
+                p1: 0,
+                p2: 0,
+                p3: 0,
+            }),
+        },
     }
 }

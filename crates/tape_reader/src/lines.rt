@@ -23,7 +23,7 @@ fn name(operation: Operation, out: &mut [u8], at: usize) -> usize
     }
 }
 
-// A byte in decimal, eight digits for a show, 0 for a show that was refused.
+// A byte in decimal, eight digits for a show, 0 for a show that was refused and for every write.
 fn value(handed: Handed, out: &mut [u8], at: usize) -> usize
     requires { ⌜ at + length (valueText (handedValue handed)) ≤ length (now out) ⌝ }
     ensures { λ r. ⌜ Put (now (out .entry)) at (valueText (handedValue handed)) (now (out .exit)) r ⌝ }
@@ -32,6 +32,7 @@ fn value(handed: Handed, out: &mut [u8], at: usize) -> usize
         Handed::Byte(byte) => text::decimal(byte as u64, out, at),
         Handed::Pixels(eight) => text::eight_digits(eight, out, at),
         Handed::Nothing => text::decimal(0, out, at),
+        Handed::Changes(_) => text::decimal(0, out, at),
     }
 }
 

@@ -11,6 +11,7 @@ use machine_types::PlaneOffset;
 use machine_types::Shape;
 use machine_types::StoreAnswer;
 use vram_planes::PlaneStore;
+use vram_planes::inner::store;
 pub use vram_reads::peek_u8;
 pub use vram_reads::read_glyph;
 pub use vram_reads::read_linear;
@@ -74,8 +75,8 @@ fn plane_store(
         DoneAnswer::Refused(x) => StoreAnswer::Refused(x),
         DoneAnswer::Done => {
             let at = offset.0;
-            vram_planes::inner::store(p0, p1, p2, p3, picture, plane, at, kind, byte);
-            StoreAnswer::Done
+            let changed = store(p0, p1, p2, p3, picture, plane, at, kind, byte);
+            StoreAnswer::Done(changed)
         }
     }
 }

@@ -4,9 +4,13 @@ ghost use Prim.Native.Nat.{_<_, _≤_};
 ghost use lib.Dec.{eqb};
 ghost use lib.ListN.{length};
 ghost use Rattle.machine.specs.Memory.{lent, before, after, Shaped};
-ghost use Rattle.machine.specs.Deeds.{byte as byteOfPlane, laid, remade};
+ghost use Rattle.machine.specs.Answers.{changesOf, changedValue};
+ghost use Rattle.machine.specs.Deeds.{byte as byteOfPlane, laid, remade, changedAt};
 ghost use Rattle.vram_planes.specs.Stores.{combines};
+use crate::changed::changed_bits;
+use crate::changed::in_plane;
 use crate::kind::PlaneStore;
+use machine_types::Changed;
 use vram_pixels::inner::remake;
 
 // A plane's byte.
@@ -45,7 +49,7 @@ fn combined(kind: PlaneStore, x: u8, old: u8) -> u8
     }
 }
 
-// A byte laid into a plane; the picture stays as it was, for `remake` to follow once after several planes.
+// A byte laid into a plane, and how many of its bits that changed; the picture stays as it was, for `remake` to follow once after several planes.
 pub fn lay(
     p0: &mut [u8],
     p1: &mut [u8],
@@ -56,26 +60,36 @@ pub fn lay(
     at: usize,
     kind: PlaneStore,
     x: u8,
-)
+) -> u8
     requires { ⌜ Shaped (lent p0 p1 p2 p3 picture) × ((at < length (now p0)) × (plane ≤ 3)) ⌝ }
-    ensures { λ _. ⌜ after p0 p1 p2 p3 picture ≡ laid at (λ q. eqb q plane) (λ q. combines kind x (byteOfPlane (before p0 p1 p2 p3 picture) q at)) (before p0 p1 p2 p3 picture) ⌝ }
+    ensures { λ r. ⌜ (after p0 p1 p2 p3 picture ≡ laid at (λ q. eqb q plane) (λ q. combines kind x (byteOfPlane (before p0 p1 p2 p3 picture) q at)) (before p0 p1 p2 p3 picture))
+        × (r ≡ changedAt (before p0 p1 p2 p3 picture) (after p0 p1 p2 p3 picture) at plane) ⌝ }
 {
     if plane == 0 {
-        p0[at] = combined(kind, x, p0[at]);
-        return;
+        let old = p0[at];
+        let new = combined(kind, x, old);
+        p0[at] = new;
+        return changed_bits(old, new);
     }
     if plane == 1 {
-        p1[at] = combined(kind, x, p1[at]);
-        return;
+        let old = p1[at];
+        let new = combined(kind, x, old);
+        p1[at] = new;
+        return changed_bits(old, new);
     }
     if plane == 2 {
-        p2[at] = combined(kind, x, p2[at]);
-        return;
+        let old = p2[at];
+        let new = combined(kind, x, old);
+        p2[at] = new;
+        return changed_bits(old, new);
     }
-    p3[at] = combined(kind, x, p3[at]);
+    let old = p3[at];
+    let new = combined(kind, x, old);
+    p3[at] = new;
+    changed_bits(old, new)
 }
 
-// A store into one plane, already judged: the byte, then its offset's eight pixels.
+// A store into one plane, already judged: the byte, then its offset's eight pixels, whether the byte changed or not.
 pub fn store(
     p0: &mut [u8],
     p1: &mut [u8],
@@ -86,10 +100,12 @@ pub fn store(
     at: usize,
     kind: PlaneStore,
     x: u8,
-)
+) -> Changed
     requires { ⌜ Shaped (lent p0 p1 p2 p3 picture) × ((at < length (now p0)) × (plane ≤ 3)) ⌝ }
-    ensures { λ _. ⌜ after p0 p1 p2 p3 picture ≡ remade at (laid at (λ q. eqb q plane) (λ q. combines kind x (byteOfPlane (before p0 p1 p2 p3 picture) q at)) (before p0 p1 p2 p3 picture)) ⌝ }
+    ensures { λ r. ⌜ (after p0 p1 p2 p3 picture ≡ remade at (laid at (λ q. eqb q plane) (λ q. combines kind x (byteOfPlane (before p0 p1 p2 p3 picture) q at)) (before p0 p1 p2 p3 picture)))
+        × (changedValue r ≡ changesOf (changedAt (before p0 p1 p2 p3 picture) (after p0 p1 p2 p3 picture) at)) ⌝ }
 {
-    lay(p0, p1, p2, p3, picture, plane, at, kind, x);
+    let number = lay(p0, p1, p2, p3, picture, plane, at, kind, x);
     remake(p0, p1, p2, p3, picture, at);
+    in_plane(plane, number)
 }

@@ -1,10 +1,10 @@
 -- `write_of` answers 6 where a number selects no register, else as `cpu_write_u8` of the records that are meant; the counters alone move.
-use mathlib.Core.Path.{ap}
+use mathlib.Core.Path.{refl, ap}
 use Rattle.machine.specs.Memory.{mem}
-use Rattle.machine.specs.Answers.{one}
+use Rattle.machine.specs.Answers.{changes, said}
 use Rattle.host_records.specs.declared.record.StatsRecord.{StatsRecord}
 use Rattle.host_records.specs.Records.{withStats}
-use Rattle.host_calls.proofs.Laws.{unknown-of, known-of, cpu-unknown, cpu-wrote, said-of, left-of}
+use Rattle.host_calls.proofs.Laws.{unknown-of, known-of, cpu-unknown, cpu-wrote, stored-as}
 use borrow.Author.Needs.{needs}
 use Rattle.host_calls.proofs.write_of.Statement.{statement}
 use Rattle.host_calls.proofs.write_of.Tie as tie
@@ -29,8 +29,8 @@ returns c =
     let a = start .args in
     let m = mem (a .p0 .now) (a .p1 .now) (a .p2 .now) (a .p3 .now) (a .picture .now) in
     let e = c .unknown-counters .ensures in
-    cpu-unknown (a .gc) (a .seq) m (one 0) _ (unknown-of (c .before .if1 .taken) (after-known .known .ensures)) _ _ (said-of e)
-    (ap (λ (t : StatsRecord). withStats t (a .gc)) (left-of e))
+    stored-as (said 6 (changes 0 0 0 0)) _ _ _ (e .0) (cpu-unknown (a .gc) (a .seq) m (changes 0 0 0 0) _ (unknown-of (c .before .if1 .taken) (after-known .known .ensures)) _ _ refl
+    (ap (λ (t : StatsRecord). withStats t (a .gc)) (e .1)))
 
 to-controller-requires : tie.Need-to-controller-requires
 to-controller-requires c κs = search needs
@@ -74,7 +74,7 @@ returns-2 c =
     let start = start-of after-known in
     let a = start .args in
     let m = mem (a .p0 .now) (a .p1 .now) (a .p2 .now) (a .p3 .now) (a .picture .now) in
-    rw (← after-is-set .is-set .ensures) (cpu-wrote (a .gc) (a .seq) m (one 0) (a .address) _ (a .byte) (known-of (else1 .if1 .left) (after-known .known .ensures)) _ _
+    rw (← after-is-set .is-set .ensures) (cpu-wrote (a .gc) (a .seq) m (changes 0 0 0 0) (a .address) _ (a .byte) (known-of (else1 .if1 .left) (after-known .known .ensures)) _ _
     (after-to-controller .to-controller .ensures) (after-to-sequencer .to-sequencer .ensures) _ _ _ _ _ (c .of-cpu-store .ensures) (after-cpu-write-u8 .cpu-write-u8 .ensures))
 
 pub write-of-spec : {M : Type 1} → statement M

@@ -60,8 +60,8 @@ returns-2 c =
     let start : tie.Start = search needs in
     let judged = rw (after-of .of .ensures) at (after-judge-plane .judge-plane .ensures) in
     let m = mem (start .args .p0 .now) (start .args .p1 .now) (start .args .p2 .now) (start .args .p3 .now) (start .args .picture .now) in
-    store-done m (start .args .plane) (start .args .offset .0) (start .args .byte) judged (start .args .kind) _ (after-enum-told .enum-told .given .1) (search needs)
-    (after-store .store .ensures)
+    store-done m (start .args .plane) (start .args .offset .0) (start .args .byte) judged (start .args .kind) _ _ (after-enum-told .enum-told .given .1) (search needs)
+    (after-store .store .ensures .0) (after-store .store .ensures .1)
 
 pub plane-store-spec : {M : Type 1} → statement M
 plane-store-spec =

@@ -1,6 +1,6 @@
 -- `cpu_peek_u8` answers as the machine: refused by the judge's number, else a byte where chain-four leads, and nothing moves.
 use Rattle.graphics_controller.proofs.Accesses.{JudgedAddress, judged, located, unlocated, peeked-small, peek-refused, peek-done}
-use Rattle.sequencer_masks.proofs.Laws.{stored-at-le}
+use Rattle.machine.proofs.Laws.{stored-at-le}
 use Rattle.machine.specs.Memory.{Memory, mem, shape}
 use Rattle.machine.proofs.Laws.{refusal-some, access-accepted}
 use Rattle.machine.specs.Address.{a0}

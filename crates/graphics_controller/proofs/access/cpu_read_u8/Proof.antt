@@ -1,7 +1,7 @@
 -- `cpu_read_u8` answers as the machine: refused by the judge's number, else from the latches that it loads, with one counter raised.
 use Rattle.graphics_controller.proofs.Accesses.{JudgedAddress, judged, located, unlocated, access-fits, read-refused, read-done}
 use Rattle.refusals_records.proofs.Held.{map-select-fits}
-use Rattle.sequencer_masks.proofs.Laws.{stored-at-le}
+use Rattle.machine.proofs.Laws.{stored-at-le}
 use Rattle.machine.specs.Memory.{Memory, mem, shape}
 use Rattle.machine.proofs.Laws.{refusal-some, access-accepted}
 use Rattle.machine.specs.Address.{a0}

@@ -112,7 +112,8 @@ returns-2 c =
     let a = start .args in
     let m = lent-to start in
     let l = located _ _ _ _ (a0 (a .address)) (address-judged after-judge-address) _ _ (after-offset .offset .given .1) in
-    write-done (a .gc) (a .seq) m (a .address) (a .page) (a .byte) _ _ _ _ (l .accepted) (l .offset) (c .write-done .ensures) (after-write-planes .write-planes .ensures)
+    write-done (a .gc) (a .seq) m (a .address) (a .page) (a .byte) _ _ _ _ _ (l .accepted) (l .offset) (c .write-done .ensures) (after-write-planes .write-planes .ensures .0)
+    (after-write-planes .write-planes .ensures .1)
 
 pub cpu-write-u8-spec : {M : Type 1} → statement M
 cpu-write-u8-spec =

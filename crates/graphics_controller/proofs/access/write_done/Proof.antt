@@ -5,7 +5,7 @@ use Rattle.machine.specs.Calls.{counted, writeCounter}
 use Rattle.machine.specs.Graphics.{gcOf}
 use Rattle.machine_types.specs.declared.gc.GraphicsControllerStats.{GraphicsControllerStats}
 use Rattle.machine_types.specs.declared.gc.WriteMode.{WriteMode}
-use Rattle.machine.specs.Answers.{said, one, outcome}
+use Rattle.machine.specs.Answers.{changedValue, said, outcome}
 use Rattle.graphics_controller.proofs.access.write_done.Statement.{statement}
 use Rattle.graphics_controller.proofs.access.write_done.Tie as tie
 
@@ -20,7 +20,7 @@ returns c =
     let after-write-mode : tie.After-write-mode = search needs in
     let start : tie.Start = search needs in
     let g = start .args .gc in
-    ap (λ (s : GraphicsControllerStats). outcome (said 0 (one 0)) (gcOf (g .registers) s (g .latches)))
+    ap (λ (s : GraphicsControllerStats). outcome (said 0 (changedValue (start .args .changed))) (gcOf (g .registers) s (g .latches)))
     (c .before .counted-write .ensures ∙ ap (λ (w : WriteMode). counted (writeCounter w) (g .stats)) (after-write-mode .write-mode .ensures))
 
 pub write-done-spec : {M : Type 1} → statement M

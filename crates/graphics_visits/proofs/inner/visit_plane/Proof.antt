@@ -1,9 +1,11 @@
--- `visit_plane` lays the plane's byte where its bit is set, and nothing else: from `lay` and the test of the bit.
+-- `visit_plane` lays the plane's byte where its bit is set, and nothing else, and answers the bits that changed: from `lay` and the test of the bit.
 use native.Mathlib.Omega.{arith}
-use mathlib.Core.Path.{_≡_}
+use mathlib.Core.Path.{_≡_, sym}
 use borrow.Author.Needs.{needs}
 use Rattle.bits.proofs.Bitwise.{bit-set, bit-clear}
 use Rattle.bits.specs.Bit.{bit}
+use Rattle.machine.specs.Deeds.{changedAt}
+use Rattle.machine.proofs.Changes.{unchanged}
 use Rattle.graphics_visits.proofs.inner.visit_plane.Statement.{statement}
 use Rattle.graphics_visits.proofs.inner.visit_plane.Tie as tie
 
@@ -37,13 +39,14 @@ returns c =
     let then1 : tie.Then1 = search needs in
     let start : tie.Start = search needs in
     let e : bit (start .args .plane) (start .args .planes) ≡ 1 = bit-set _ _ (omega arith) (then1 .if1 .taken) in
-    simp e (after-lay .lay .ensures)
+    (simp e (after-lay .lay .ensures .0), after-lay .lay .ensures .1)
 
 returns-2 : tie.Need-returns-2
+unfolding changedAt
 returns-2 c =
     let start : tie.Start = search needs in
     let e : bit (start .args .plane) (start .args .planes) ≡ 0 = bit-clear _ _ (omega arith) (c .if1 .left) in
-    simp e
+    (simp e, sym (unchanged _))
 
 pub visit-plane-spec : {M : Type 1} → statement M
 visit-plane-spec =

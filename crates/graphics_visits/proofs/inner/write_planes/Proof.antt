@@ -8,8 +8,10 @@ use Rattle.machine.specs.Graphics.{writeMode}
 use Rattle.machine.specs.Calls.{writeDeed}
 use Rattle.machine.specs.Deeds.{latch, laid, remade, memoryAfter}
 use Rattle.machine.specs.Memory.{mem}
-use Rattle.sequencer_masks.proofs.Laws.{stored-at-le}
-use Rattle.graphics_visits.proofs.Planes.{write-none, write-some}
+use Rattle.machine.specs.Answers.{changedValue}
+use Rattle.machine.proofs.Laws.{stored-at-le}
+use Rattle.machine.proofs.Changes.{none-changed}
+use Rattle.graphics_visits.proofs.Planes.{write-none, write-some, write-numbers}
 use Rattle.graphics_visits.proofs.inner.write_planes.Statement.{statement}
 use Rattle.graphics_visits.proofs.inner.write_planes.Tie as tie
 
@@ -48,12 +50,19 @@ some-stored after-visit =
 stored-planes-requires : tie.Need-stored-planes-requires
 stored-planes-requires c κs = search needs
 
+unchanged-requires : tie.Need-unchanged-requires
+unchanged-requires c κs = search needs
+
 returns : tie.Need-returns
 returns c =
+    let then1 : tie.Then1 = search needs in
+    let after-stored-planes : tie.After-stored-planes = search needs in
     let start : tie.Start = search needs in
     let a = start .args in
-    let r = a .gc .registers in
-    write-none (writeMode r) r (a .seq) (a .address) (a .at) (a .byte) (a .gc .latches) _ _ (c .before .stored-planes .ensures) (c .if1 .taken)
+    let r = a .gc .registers in (
+      write-none (writeMode r) r (a .seq) (a .address) (a .at) (a .byte) (a .gc .latches) _ _ (after-stored-planes .stored-planes .ensures) (then1 .if1 .taken),
+      ap changedValue (c .unchanged .ensures) ∙ none-changed _ _,
+    )
 
 write-mode-requires : tie.Need-write-mode-requires
 write-mode-requires c κs = search needs
@@ -99,14 +108,17 @@ returns-2 : tie.Need-returns-2
 unfolding start-of planes-of bytes-of place-of
 returns-2 c =
     let after-remake : tie.After-remake = search needs in
-    let after-visit : tie.After-visit = search needs in
-    after-remake .remake .ensures ∙ ap (remade (place-of after-visit .stored-at .result)) (after-visit .visit .ensures) ∙ some-stored after-visit
+    let after-visit : tie.After-visit = search needs in (
+      after-remake .remake .ensures ∙ ap (remade (place-of after-visit .stored-at .result)) (after-visit .visit .ensures .0) ∙ some-stored after-visit,
+      write-numbers _ _ _ _ _ _ (after-visit .visit .ensures .1) (after-remake .remake .ensures) (place-of after-visit .stored-at .ensures),
+    )
 
 pub write-planes-spec : {M : Type 1} → statement M
 write-planes-spec =
     tie.close
     (tie.spec
     stored-planes-requires
+    unchanged-requires
     returns
     write-mode-requires
     plane-bytes-requires

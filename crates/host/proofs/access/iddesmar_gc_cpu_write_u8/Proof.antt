@@ -42,9 +42,9 @@ use denote.Triple.Walked.{says, Stays, stay-ref, stay-dropped, gave-slice, walkO
 use denote.Triple.Clauses.{ensured, lasts}
 use denote.Exit.{yes}
 use Rattle.machine.specs.Memory.{mem as memory}
-use Rattle.machine.specs.Answers.{outcome, one}
+use Rattle.machine.specs.Answers.{changes}
 use Rattle.machine.specs.Calls.{cpuWrite}
-use Rattle.answers.specs.Answers.{answerSaid}
+use Rattle.answers.specs.Wide.{StoredAs}
 use Rattle.host_records.specs.Records.{isSet}
 use Rattle.host_calls.specs.Hosted.{held, cpuHosted}
 use Rattle.host_records.specs.declared.record.ControllerRecord.{ControllerRecord}
@@ -54,8 +54,8 @@ use Rattle.host_records.proofs.record.ControllerRecord as G
 use Rattle.host_records.proofs.record.ControllerRecord.Laws as G′
 use Rattle.host_records.proofs.record.SequencerRecord as S
 use Rattle.host_records.proofs.record.SequencerRecord.Laws as S′
-use Rattle.answers.proofs.narrow.Answer as N
-use Rattle.answers.proofs.narrow.Answer.Laws as N′
+use Rattle.answers.proofs.wide.Stored as N
+use Rattle.answers.proofs.wide.Stored.Laws as N′
 use Rattle.host_records.proofs.left.StatsAnswer as R
 use Rattle.host_records.proofs.left.StatsAnswer.Laws as R′
 use Rattle.host_records.proofs.InPlace.{Bytes, gval, sval, head-is, stats-rval, stats-aval, stats-an-is, stats-is, stats-gc-is}
@@ -111,7 +111,7 @@ module _ {M : Type 1} (𝓤 : URA M) (H : Heap 𝓤) (A : Atoms 𝓤) (W : Given
   goes : ent 𝓤 (⋆ 𝓤 H A ((‵ (flft κ1 q1) ⊛ ‵ (flft κ2 q2) ⊛ ‵ (flft κ3 q3) ⊛ ‵ (flft κ4 q4) ⊛ ‵ (flft κ5 q5) ⊛ ‵ ftrue) ∷ ‵ (owns (G.the-row ∷ S.the-row ∷ MutSlice (named 0) κ1 u8 ∷ MutSlice (named 1) κ2 u8 ∷ MutSlice (named 2) κ3 u8 ∷ MutSlice (named 3) κ4 u8 ∷ MutSlice (named 4) κ5 u8 ∷ usize ∷ u8 ∷ u8 ∷ []) (h, rest) (gval h ∷ [], restv)) ∷ [])) (Called 𝓤 H A at-mem run .pre to)
   goes = qed W ((‵ (flft κ1 q1) ⊛ ‵ (flft κ2 q2) ⊛ ‵ (flft κ3 q3) ⊛ ‵ (flft κ4 q4) ⊛ ‵ (flft κ5 q5) ⊛ ‵ ftrue) ∷ ‵ (owns (G.the-row ∷ S.the-row ∷ MutSlice (named 0) κ1 u8 ∷ MutSlice (named 1) κ2 u8 ∷ MutSlice (named 2) κ3 u8 ∷ MutSlice (named 3) κ4 u8 ∷ MutSlice (named 4) κ5 u8 ∷ usize ∷ u8 ∷ u8 ∷ []) (h, rest) (gval h ∷ [], restv)) ∷ []) ∵ join ! $ frame ! $ done !
 
-  exits : (r : StatsAnswer) (p0-end p1-end p2-end p3-end picture-end : List ℕ) → Is R.the-row r (stats-rval r ∷ []) → outcome (answerSaid (r .answer)) (held (withStats (r .stats) h) (memory p0-end p1-end p2-end p3-end picture-end)) ≡ cpuHosted h seq (memory (p0 .now) (p1 .now) (p2 .now) (p3 .now) (picture .now)) (one 0) (cpuWrite address (isSet page) byte) → length p0-end ≡ length (p0 .now) → length p1-end ≡ length (p1 .now) → length p2-end ≡ length (p2 .now) → length p3-end ≡ length (p3 .now) → length picture-end ≡ length (picture .now) → ent 𝓤 (⋆ 𝓤 H A (‵ (fobs γ (G.the-row .coded .code (withStats (r .stats) h))) ∷ ‵ (fbor κ0 (Body (mem G.the-row) b o γ)) ∷ ‵ (flft κ0 q0) ∷ (‵ (flft κ1 q1) ⊛ ‵ (flft κ2 q2) ⊛ ‵ (flft κ3 q3) ⊛ ‵ (flft κ4 q4) ⊛ ‵ (flft κ5 q5) ⊛ ‵ ftrue) ∷ ‵ (finally u8 (p0 .name) p0-end) ∷ ‵ (finally u8 (p1 .name) p1-end) ∷ ‵ (finally u8 (p2 .name) p2-end) ∷ ‵ (finally u8 (p3 .name) p3-end) ∷ ‵ (finally u8 (picture .name) picture-end) ∷ [])) (Post (stats-aval r))
+  exits : (r : StatsAnswer) (p0-end p1-end p2-end p3-end picture-end : List ℕ) → Is R.the-row r (stats-rval r ∷ []) → StoredAs (r .answer) (held (withStats (r .stats) h) (memory p0-end p1-end p2-end p3-end picture-end)) (cpuHosted h seq (memory (p0 .now) (p1 .now) (p2 .now) (p3 .now) (picture .now)) (changes 0 0 0 0) (cpuWrite address (isSet page) byte)) → length p0-end ≡ length (p0 .now) → length p1-end ≡ length (p1 .now) → length p2-end ≡ length (p2 .now) → length p3-end ≡ length (p3 .now) → length picture-end ≡ length (picture .now) → ent 𝓤 (⋆ 𝓤 H A (‵ (fobs γ (G.the-row .coded .code (withStats (r .stats) h))) ∷ ‵ (fbor κ0 (Body (mem G.the-row) b o γ)) ∷ ‵ (flft κ0 q0) ∷ (‵ (flft κ1 q1) ⊛ ‵ (flft κ2 q2) ⊛ ‵ (flft κ3 q3) ⊛ ‵ (flft κ4 q4) ⊛ ‵ (flft κ5 q5) ⊛ ‵ ftrue) ∷ ‵ (finally u8 (p0 .name) p0-end) ∷ ‵ (finally u8 (p1 .name) p1-end) ∷ ‵ (finally u8 (p2 .name) p2-end) ∷ ‵ (finally u8 (p3 .name) p3-end) ∷ ‵ (finally u8 (picture .name) picture-end) ∷ [])) (Post (stats-aval r))
   exits r p0-end p1-end p2-end p3-end picture-end is e p0-long p1-long p2-long p3-long picture-long =
       qed W (‵ (fobs γ (G.the-row .coded .code (withStats (r .stats) h))) ∷ ‵ (fbor κ0 (Body (mem G.the-row) b o γ)) ∷ ‵ (flft κ0 q0) ∷ (‵ (flft κ1 q1) ⊛ ‵ (flft κ2 q2) ⊛ ‵ (flft κ3 q3) ⊛ ‵ (flft κ4 q4) ⊛ ‵ (flft κ5 q5) ⊛ ‵ ftrue) ∷ ‵ (finally u8 (p0 .name) p0-end) ∷ ‵ (finally u8 (p1 .name) p1-end) ∷ ‵ (finally u8 (p2 .name) p2-end) ∷ ‵ (finally u8 (p3 .name) p3-end) ∷ ‵ (finally u8 (picture .name) picture-end) ∷ []) ∵
       suffices ! _ (ends-at 𝓤 H A place.ended stayed (place.clauses 𝓤 H A at-mem run) W (((κ0, (κ1, (κ2, (κ3, (κ4, (κ5, tt)))))), (q0, (q1, (q2, (q3, (q4, (q5, tt)))))), tt, a, vals), tt) (stats-aval r) (r .answer) (withStats (r .stats) h, (tt, (p0-end, (p1-end, (p2-end, (p3-end, (picture-end, (tt, (tt, (tt, tt)))))))))) (tt, (tt, (p0-long, (p1-long, (p2-long, (p3-long, (picture-long, (tt, (tt, (tt, tt))))))))))) $ says ! e $
@@ -159,8 +159,8 @@ module _ {M : Type 1} (𝓤 : URA M) (H : Heap 𝓤) (A : Atoms 𝓤) (W : Given
         use2 W (raw (Called 𝓤 H A at-mem run .pre to)) goes $
         calls-at ! fm (Called 𝓤 H A at-mem run) known to (and-then ! (load ! (from ! (stop !)) (look ! 26 refl)) (and-then ! (load ! (from ! (stop !)) (look ! 46 refl)) (and-then ! (load ! (from ! (stop !)) (look ! 22 refl)) (and-then ! (load ! (from ! (stop !)) (look ! 18 refl)) (and-then ! (load ! (from ! (stop !)) (look ! 14 refl)) (and-then ! (load ! (from ! (stop !)) (look ! 10 refl)) (and-then ! (load ! (from ! (stop !)) (look ! 6 refl)) (and-then ! (load ! (from ! (stop !)) (look ! 34 refl)) (and-then ! (load ! (from ! (stop !)) (look ! 32 refl)) (and-then ! (load ! (from ! (stop !)) (look ! 30 refl)) (no-more !))))))))))) (λ w.
         use1 W (later (some (λ (r : StatsAnswer). ((‵ (flft κ1 q1) ⊛ ‵ (flft κ2 q2) ⊛ ‵ (flft κ3 q3) ⊛ ‵ (flft κ4 q4) ⊛ ‵ (flft κ5 q5) ⊛ ‵ ftrue) ⊛ ‵ (R.the-row .own r (w ∷ []))) ⊛ raw (ensured 𝓤 H A by-value.ended (by-value.clauses 𝓤 H A at-mem run) κs (h, rest) tt r)))) (id⊢ 𝓤 _) $ await ! tt $ pick ! (λ r.
-        split ! $ move ! (1 ∷ []) $ use1 W (some (λ (zs : Unit {0} × (Unit {0} × (List ℕ × (List ℕ × (List ℕ × (List ℕ × (List ℕ × (Unit {0} × (Unit {0} × (Unit {0} × Unit {0})))))))))). ‵ (lasts by-value.ended κs (h, rest) zs) ⊛ raw (fact 𝓤 (outcome (answerSaid (r .answer)) (held (withStats (r .stats) h) (memory (zs .1 .1 .0) (zs .1 .1 .1 .0) (zs .1 .1 .1 .1 .0) (zs .1 .1 .1 .1 .1 .0) (zs .1 .1 .1 .1 .1 .1 .0))) ≡ cpuHosted h seq (memory (p0 .now) (p1 .now) (p2 .now) (p3 .now) (picture .now)) (one 0) (cpuWrite address (isSet page) byte))))) (id⊢ 𝓤 _) $ pick ! (λ zs.
-        split ! $ move ! (1 ∷ []) $ heard ! (outcome (answerSaid (r .answer)) (held (withStats (r .stats) h) (memory (zs .1 .1 .0) (zs .1 .1 .1 .0) (zs .1 .1 .1 .1 .0) (zs .1 .1 .1 .1 .1 .0) (zs .1 .1 .1 .1 .1 .1 .0))) ≡ cpuHosted h seq (memory (p0 .now) (p1 .now) (p2 .now) (p3 .now) (picture .now)) (one 0) (cpuWrite address (isSet page) byte)) (λ e.
+        split ! $ move ! (1 ∷ []) $ use1 W (some (λ (zs : Unit {0} × (Unit {0} × (List ℕ × (List ℕ × (List ℕ × (List ℕ × (List ℕ × (Unit {0} × (Unit {0} × (Unit {0} × Unit {0})))))))))). ‵ (lasts by-value.ended κs (h, rest) zs) ⊛ raw (fact 𝓤 (StoredAs (r .answer) (held (withStats (r .stats) h) (memory (zs .1 .1 .0) (zs .1 .1 .1 .0) (zs .1 .1 .1 .1 .0) (zs .1 .1 .1 .1 .1 .0) (zs .1 .1 .1 .1 .1 .1 .0))) (cpuHosted h seq (memory (p0 .now) (p1 .now) (p2 .now) (p3 .now) (picture .now)) (changes 0 0 0 0) (cpuWrite address (isSet page) byte)))))) (id⊢ 𝓤 _) $ pick ! (λ zs.
+        split ! $ move ! (1 ∷ []) $ heard ! (StoredAs (r .answer) (held (withStats (r .stats) h) (memory (zs .1 .1 .0) (zs .1 .1 .1 .0) (zs .1 .1 .1 .1 .0) (zs .1 .1 .1 .1 .1 .0) (zs .1 .1 .1 .1 .1 .1 .0))) (cpuHosted h seq (memory (p0 .now) (p1 .now) (p2 .now) (p3 .now) (picture .now)) (changes 0 0 0 0) (cpuWrite address (isSet page) byte))) (λ e.
         fsplit ! $ drop ! $
         fsplit ! $ drop ! $
         fsplit ! $ fsplit ! $ move ! (1 ∷ []) $ feqL ! (λ m0. move ! (1 ∷ []) $

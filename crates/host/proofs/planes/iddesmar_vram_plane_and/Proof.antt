@@ -1,5 +1,6 @@
 -- As `plane_and` of vram.
 use borrow.Author.Needs.{needs}
+use Rattle.host_calls.proofs.Laws.{stored-as}
 use Rattle.host.proofs.planes.iddesmar_vram_plane_and.Statement.{statement}
 use Rattle.host.proofs.planes.iddesmar_vram_plane_and.Tie as tie
 
@@ -27,7 +28,7 @@ same-length-5 c = search needs
 returns : tie.Need-returns
 returns c =
     let after-plane-and : tie.After-plane-and = search needs in
-    rw (c .of-store .ensures) (after-plane-and .plane-and .ensures)
+    stored-as _ _ _ _ (c .of-store .ensures) (after-plane-and .plane-and .ensures)
 
 pub iddesmar-vram-plane-and-spec : {M : Type 1} → statement M
 iddesmar-vram-plane-and-spec =

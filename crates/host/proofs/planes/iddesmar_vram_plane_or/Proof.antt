@@ -1,5 +1,6 @@
 -- As `plane_or` of vram.
 use borrow.Author.Needs.{needs}
+use Rattle.host_calls.proofs.Laws.{stored-as}
 use Rattle.host.proofs.planes.iddesmar_vram_plane_or.Statement.{statement}
 use Rattle.host.proofs.planes.iddesmar_vram_plane_or.Tie as tie
 
@@ -27,7 +28,7 @@ same-length-5 c = search needs
 returns : tie.Need-returns
 returns c =
     let after-plane-or : tie.After-plane-or = search needs in
-    rw (c .of-store .ensures) (after-plane-or .plane-or .ensures)
+    stored-as _ _ _ _ (c .of-store .ensures) (after-plane-or .plane-or .ensures)
 
 pub iddesmar-vram-plane-or-spec : {M : Type 1} → statement M
 iddesmar-vram-plane-or-spec =

@@ -1,5 +1,6 @@
 -- As `plane_set` of vram.
 use borrow.Author.Needs.{needs}
+use Rattle.host_calls.proofs.Laws.{stored-as}
 use Rattle.host.proofs.planes.iddesmar_vram_plane_set.Statement.{statement}
 use Rattle.host.proofs.planes.iddesmar_vram_plane_set.Tie as tie
 
@@ -27,7 +28,7 @@ same-length-5 c = search needs
 returns : tie.Need-returns
 returns c =
     let after-plane-set : tie.After-plane-set = search needs in
-    rw (c .of-store .ensures) (after-plane-set .plane-set .ensures)
+    stored-as _ _ _ _ (c .of-store .ensures) (after-plane-set .plane-set .ensures)
 
 pub iddesmar-vram-plane-set-spec : {M : Type 1} → statement M
 iddesmar-vram-plane-set-spec =

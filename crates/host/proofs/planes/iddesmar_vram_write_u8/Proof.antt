@@ -1,5 +1,6 @@
 -- As `write_u8` of vram.
 use borrow.Author.Needs.{needs}
+use Rattle.host_calls.proofs.Laws.{stored-as}
 use Rattle.host.proofs.planes.iddesmar_vram_write_u8.Statement.{statement}
 use Rattle.host.proofs.planes.iddesmar_vram_write_u8.Tie as tie
 
@@ -27,7 +28,7 @@ same-length-5 c = search needs
 returns : tie.Need-returns
 returns c =
     let after-write-u8 : tie.After-write-u8 = search needs in
-    rw (c .of-store .ensures) (after-write-u8 .write-u8 .ensures)
+    stored-as _ _ _ _ (c .of-store .ensures) (after-write-u8 .write-u8 .ensures)
 
 pub iddesmar-vram-write-u8-spec : {M : Type 1} → statement M
 iddesmar-vram-write-u8-spec =

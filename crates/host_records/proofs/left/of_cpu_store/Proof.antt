@@ -10,7 +10,7 @@ of-stats-requires : tie.Need-of-stats-requires
 of-stats-requires c κs = search needs
 
 returns : tie.Need-returns
-returns c = rw (c .of-stats .ensures, c .before .of-store .ensures)
+returns c = (c .before .of-store .ensures, c .of-stats .ensures)
 
 pub of-cpu-store-spec : {M : Type 1} → statement M
 of-cpu-store-spec = tie.close (tie.spec of-store-requires of-stats-requires returns)

@@ -1,13 +1,14 @@
--- `unknown_counters`: from `unknown`.
+-- `unknown_counters`: from `unknown_stored`.
+use mathlib.Core.Path.{refl}
 use borrow.Author.Needs.{needs}
 use Rattle.host_records.proofs.left.unknown_counters.Statement.{statement}
 use Rattle.host_records.proofs.left.unknown_counters.Tie as tie
 
-unknown-requires : tie.Need-unknown-requires
-unknown-requires c κs = search needs
+unknown-stored-requires : tie.Need-unknown-stored-requires
+unknown-stored-requires c κs = search needs
 
 returns : tie.Need-returns
-returns c = rw (c .unknown .ensures)
+returns c = (c .unknown-stored .ensures, refl)
 
 pub unknown-counters-spec : {M : Type 1} → statement M
-unknown-counters-spec = tie.close (tie.spec unknown-requires returns)
+unknown-counters-spec = tie.close (tie.spec unknown-stored-requires returns)

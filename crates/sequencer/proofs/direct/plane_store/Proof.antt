@@ -63,8 +63,8 @@ returns-2 c =
     let start : tie.Start = search needs in
     let judged = rw (after-of .of .ensures) at (after-judge-direct .judge-direct .ensures) in
     let m = mem (start .args .p0 .now) (start .args .p1 .now) (start .args .p2 .now) (start .args .p3 .now) (start .args .picture .now) in
-    store-done (start .args .seq) m (start .args .plane) (start .args .offset .0) (start .args .a0) (start .args .byte) judged (start .args .kind) _
-    (after-enum-told .enum-told .given .1) (after-store-masked .store-masked .ensures)
+    store-done (start .args .seq) m (start .args .plane) (start .args .offset .0) (start .args .a0) (start .args .byte) judged (start .args .kind) _ _
+    (after-enum-told .enum-told .given .1) (after-store-masked .store-masked .ensures .0) (after-store-masked .store-masked .ensures .1)
 
 pub plane-store-spec : {M : Type 1} → statement M
 plane-store-spec =

@@ -1,6 +1,5 @@
 -- `write` is the machine's step: from what `cpu_write_u8` ensures.
 use borrow.Author.Needs.{needs}
-use mathlib.Core.Path.{_∙_}
 use Rattle.tape_calls.proofs.Performing.{cpu-so}
 use Rattle.tape_calls.proofs.calls.write.Statement.{statement}
 use Rattle.tape_calls.proofs.calls.write.Tie as tie
@@ -10,9 +9,6 @@ cpu-write-u8-requires c κs = search needs
 
 of-store-requires : tie.Need-of-store-requires
 of-store-requires c κs = search needs
-
-of-answer-requires : tie.Need-of-answer-requires
-of-answer-requires c κs = search needs
 
 same-length : tie.Need-same-length
 same-length c = search needs
@@ -32,7 +28,7 @@ same-length-5 c = search needs
 returns : tie.Need-returns
 returns c =
     let after-cpu-write-u8 : tie.After-cpu-write-u8 = search needs in
-    cpu-so _ _ _ _ (after-cpu-write-u8 .cpu-write-u8 .ensures) (c .of-answer .ensures ∙ c .before .of-store .ensures)
+    cpu-so _ _ _ _ (after-cpu-write-u8 .cpu-write-u8 .ensures) (c .of-store .ensures)
 
 pub write-spec : {M : Type 1} → statement M
 write-spec =
@@ -40,7 +36,6 @@ write-spec =
     (tie.spec
     cpu-write-u8-requires
     of-store-requires
-    of-answer-requires
     same-length
     same-length-2
     same-length-3

@@ -39,6 +39,16 @@ decimal-requires-2 c κs =
     let h = start .pre in
     rw (c .before .enum-told .given .1) at h
 
+enum-told-2 : tie.Need-enum-told-2
+enum-told-2 c = search needs
+
+decimal-requires-3 : tie.Need-decimal-requires-3
+unfolding valueText
+decimal-requires-3 c κs =
+    let start : tie.Start = search needs in
+    let h = start .pre in
+    rw (c .before .enum-told2 .given .1) at h
+
 same-length : tie.Need-same-length
 same-length c = search needs
 
@@ -69,6 +79,16 @@ returns-3 c =
     let after-enum-told : tie.After-enum-told = search needs in
     rw (after-enum-told .enum-told .given .1) (after-decimal2 .decimal2 .ensures)
 
+same-length-4 : tie.Need-same-length-4
+same-length-4 c = search needs
+
+returns-4 : tie.Need-returns-4
+unfolding valueText
+returns-4 c =
+    let after-decimal3 : tie.After-decimal3 = search needs in
+    let after-enum-told2 : tie.After-enum-told2 = search needs in
+    rw (after-enum-told2 .enum-told2 .given .1) (after-decimal3 .decimal3 .ensures)
+
 pub value-spec : {M : Type 1} → statement M
 value-spec =
     tie.close
@@ -80,9 +100,13 @@ value-spec =
     eight-digits-requires
     enum-told
     decimal-requires-2
+    enum-told-2
+    decimal-requires-3
     same-length
     returns
     same-length-2
     returns-2
     same-length-3
-    returns-3)
+    returns-3
+    same-length-4
+    returns-4)
