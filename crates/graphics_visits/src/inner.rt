@@ -19,8 +19,8 @@ use machine_types::Changed;
 use machine_types::GraphicsController;
 use machine_types::GraphicsRegisters;
 use machine_types::Sequencer;
+use vram_changes::inner::unchanged;
 use vram_planes::PlaneStore;
-use vram_planes::changed::unchanged;
 
 // The planes that are stored, as four bits: visited, and let through by the mask.
 fn stored_planes(

@@ -229,3 +229,38 @@ changes-counted s (sequencer c) t = absurd (apart t)
 changes-counted s (direct c) t = direct-changes s c t
 changes-counted s (graphics c) t = absurd (apart t)
 changes-counted s (cpu c) t = cpu-changes s c t
+
+-- ---- spelt out, call by call: each of the eight is a store
+
+module _ (s : State) (p o x : ℕ) (a page : Bool) where
+  write-u8-counted : Counted s (vram (writeU8 p o x))
+  unfolding Counted
+  write-u8-counted = changes-counted s (vram (writeU8 p o x)) refl
+
+  plane-set-counted : Counted s (vram (planeSet p o x))
+  unfolding Counted
+  plane-set-counted = changes-counted s (vram (planeSet p o x)) refl
+
+  plane-and-counted : Counted s (vram (planeAnd p o x))
+  unfolding Counted
+  plane-and-counted = changes-counted s (vram (planeAnd p o x)) refl
+
+  plane-or-counted : Counted s (vram (planeOr p o x))
+  unfolding Counted
+  plane-or-counted = changes-counted s (vram (planeOr p o x)) refl
+
+  seq-plane-set-counted : Counted s (direct (seqPlaneSet p o a x))
+  unfolding Counted
+  seq-plane-set-counted = changes-counted s (direct (seqPlaneSet p o a x)) refl
+
+  seq-plane-and-counted : Counted s (direct (seqPlaneAnd p o a x))
+  unfolding Counted
+  seq-plane-and-counted = changes-counted s (direct (seqPlaneAnd p o a x)) refl
+
+  seq-plane-or-counted : Counted s (direct (seqPlaneOr p o a x))
+  unfolding Counted
+  seq-plane-or-counted = changes-counted s (direct (seqPlaneOr p o a x)) refl
+
+  cpu-write-counted : Counted s (cpu (cpuWrite x page o))
+  unfolding Counted
+  cpu-write-counted = changes-counted s (cpu (cpuWrite x page o)) refl

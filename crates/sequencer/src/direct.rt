@@ -20,8 +20,8 @@ use machine_types::Shape;
 use machine_types::StoreAnswer;
 use refusals_access::judge_direct;
 use sequencer_masks::inner;
+use vram_changes::inner::unchanged;
 use vram_planes::PlaneStore;
-use vram_planes::changed::unchanged;
 use vram_planes::inner::store;
 
 // A store, already judged, and how much it changed: where the mask has the plane, its byte and its eight pixels; else nothing.

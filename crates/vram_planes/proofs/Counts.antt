@@ -1,45 +1,17 @@
--- How much a store changed: ones counted are bits that differ, and four numbers of which one plane's is not 0.
-use Prim.Native.Nat.{ℕ, zero, suc, _+_, _<_}
-use mathlib.Core.Path.{_≡_, refl, sym, ap, ap₂, _∙_}
+-- How much a store into one plane changed: the number of the byte that was put down, and four numbers of which the others are 0.
+use Prim.Native.Nat.{ℕ, _<_}
+use mathlib.Core.Path.{_≡_, refl, sym, ap, _∙_}
 use mathlib.Core.Bool.{Bool, true, false}
 use mathlib.Core.List.{List}
 use lib.Dec.{eqb, lit<}
-use lib.Bits.{bitXor, differ}
-use lib.Count.{ones, onesIn}
 use lib.ListN.{length, getD, set}
 use lib.Seq.{getD-set-same}
 use borrow.Author.Tests.{eqb-true}
-use Rattle.bits.specs.Bit.{bit, sumOf, pick}
-use Rattle.bits.proofs.Laws.{bit-lt}
-use Rattle.bits.proofs.Bitwise.{bit-xor, xor8}
-use Rattle.bits.proofs.Decide.{agree1, agree2}
+use Rattle.bits.specs.Bit.{pick}
 use Rattle.machine.specs.Memory.{Memory, Shaped}
 use Rattle.machine.specs.Answers.{Value, changesOf}
-use Rattle.machine.specs.Deeds.{byte, laid, remade, changedBit, changedBits, changedAt}
+use Rattle.machine.specs.Deeds.{byte, laid, remade, changedBits, changedAt}
 use Rattle.machine.proofs.Changes.{remade-changed, laid-changed}
-
--- ---- the count of ones
-
-ones-summed : (x : ℕ) → x < 256 → ones x ≡ sumOf 8 (λ i. bit i x)
-unfolding ones onesIn sumOf bit
-ones-summed = agree1 256 ones (λ x. sumOf 8 (λ i. bit i x)) tt
-
-sum-same : (n : ℕ) (f g : ℕ → ℕ) → ((i : ℕ) → f i ≡ g i) → sumOf n f ≡ sumOf n g
-unfolding sumOf
-sum-same zero f g h = refl
-sum-same (suc n) f g h = ap₂ (λ (a b : ℕ). a + b) (h 0) (sum-same n (λ i. f (suc i)) (λ i. g (suc i)) (λ i. h (suc i)))
-
-differ-changed : (a b : ℕ) → a < 2 → b < 2 → differ a b ≡ pick (eqb a b) 0 1
-differ-changed = agree2 2 2 differ (λ a b. pick (eqb a b) 0 1) tt
-
--- the ones of old byte exclusive-or new byte are the bits that changed
-pub ones-changed : (old new : ℕ) → old < 256 → new < 256 → ones (bitXor old new) ≡ changedBits old new
-unfolding changedBits
-ones-changed old new h l =
-    ones-summed (bitXor old new) (xor8 old new h l)
-    ∙ sum-same 8 (λ i. bit i (bitXor old new)) (changedBit old new) (λ i. bit-xor i old new ∙ differ-changed (bit i old) (bit i new) (bit-lt i old) (bit-lt i new))
-
--- ---- a store into one plane
 
 -- what was put down is what is found there
 pub put-down : (l : List ℕ) (o new n : ℕ) → o < length l → n ≡ changedBits (getD l o 0) new → n ≡ changedBits (getD l o 0) (getD (set l o new) o 0)

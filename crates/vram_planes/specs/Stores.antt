@@ -1,8 +1,7 @@
--- The three stores by plane, by their kind: the byte that is put down, and the machine's rule for its bits. And what a store answers that changed none.
+-- The three stores by plane, by their kind: the byte that is put down, and the machine's rule for its bits.
 use Prim.Native.Nat.{ℕ}
 use Rattle.bits.specs.Bit.{bit, byteOf}
 use Rattle.machine.specs.Calls.{setBit, andBit, orBit}
-use Rattle.machine_types.specs.declared.answer.Changed.{Changed}
 use Rattle.vram_planes.specs.declared.kind.PlaneStore.{PlaneStore}
 use Rattle.vram_planes.specs.declared.kind.PlaneStore.the-variants.{Set, And, Or}
 
@@ -17,7 +16,3 @@ abbrev pub combines : PlaneStore → ℕ → ℕ → ℕ
 combines Set x old = x
 combines And x old = byteOf (λ i. storeBit And (bit i x) (bit i old))
 combines Or x old = byteOf (λ i. storeBit Or (bit i x) (bit i old))
-
--- no plane changed
-abbrev pub noneChanged : Changed
-noneChanged = record { p0 = 0; p1 = 0; p2 = 0; p3 = 0 }

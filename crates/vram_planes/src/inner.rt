@@ -7,10 +7,10 @@ ghost use Rattle.machine.specs.Memory.{lent, before, after, Shaped};
 ghost use Rattle.machine.specs.Answers.{changesOf, changedValue};
 ghost use Rattle.machine.specs.Deeds.{byte as byteOfPlane, laid, remade, changedAt};
 ghost use Rattle.vram_planes.specs.Stores.{combines};
-use crate::changed::changed_bits;
-use crate::changed::in_plane;
 use crate::kind::PlaneStore;
 use machine_types::Changed;
+use vram_changes::inner::changed_bits;
+use vram_changes::inner::in_plane;
 use vram_pixels::inner::remake;
 
 // A plane's byte.

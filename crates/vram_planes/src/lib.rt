@@ -1,5 +1,4 @@
 // Four planes and their picture, as lent: read, and stored with the pixels remade. Every function here is for the crates above.
-pub mod changed;
 pub mod inner;
 mod kind;
 

@@ -2,8 +2,8 @@
 use native.Mathlib.Omega.{arith}
 use mathlib.Core.Path.{_≡_}
 use borrow.Author.Needs.{needs}
-use Rattle.vram_planes.proofs.changed.in_plane.Statement.{statement}
-use Rattle.vram_planes.proofs.changed.in_plane.Tie as tie
+use Rattle.vram_changes.proofs.inner.in_plane.Statement.{statement}
+use Rattle.vram_changes.proofs.inner.in_plane.Tie as tie
 
 unchanged-requires : tie.Need-unchanged-requires
 unchanged-requires c κs = search needs

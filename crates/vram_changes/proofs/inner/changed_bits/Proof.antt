@@ -5,9 +5,9 @@ use lib.Bits.{bitXor}
 use lib.Count.{ones}
 use borrow.Author.Needs.{needs}
 use Rattle.machine.proofs.Changes.{changed-most}
-use Rattle.vram_planes.proofs.Counts.{ones-changed}
-use Rattle.vram_planes.proofs.changed.changed_bits.Statement.{statement}
-use Rattle.vram_planes.proofs.changed.changed_bits.Tie as tie
+use Rattle.vram_changes.proofs.Ones.{ones-changed}
+use Rattle.vram_changes.proofs.inner.changed_bits.Statement.{statement}
+use Rattle.vram_changes.proofs.inner.changed_bits.Tie as tie
 
 cast-result : tie.Need-cast-result
 cast-result c =

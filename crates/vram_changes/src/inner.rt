@@ -1,11 +1,11 @@
-// How much a store changed: a number a plane, and four of them together.
+// What the crates above may call, and a host may not: functions that ask something of their caller, who has judged the plane.
 ghost use mathlib.Core.Path.{_≡_};
 ghost use Prim.Native.Nat.{_≤_};
 ghost use lib.Dec.{eqb};
 ghost use Rattle.bits.specs.Bit.{pick};
 ghost use Rattle.machine.specs.Answers.{changesOf, changedValue};
 ghost use Rattle.machine.specs.Deeds.{changedBits};
-ghost use Rattle.vram_planes.specs.Stores.{noneChanged};
+ghost use Rattle.vram_changes.specs.Numbers.{noneChanged};
 use machine_types::Changed;
 
 // How many of a byte's eight bits changed.
