@@ -5,16 +5,19 @@ use native.Mathlib.Nat.{mod-lt}
 use native.Mathlib.Omega.{arith}
 use mathlib.Core.Logic.{_≢_}
 use mathlib.Core.Path.{_≡_, refl, sym, ap, ap₂, _∙_}
+use mathlib.Core.Bool.{true}
 use mathlib.Core.List.{List, [], _∷_, _++_, map}
 use lib.Dec.{eqb}
 use lib.Pow.{pow-pos}
 use borrow.Author.Tests.{eq-eqb}
-use Rattle.bits.specs.Bit.{pick}
 use Rattle.bits.proofs.Laws.{bit-shr, bit-mod, bits-ext, all-bits}
 use Rattle.machine.specs.Answers.{Value, one, two, pixel, part, changes, Said, said}
 use Rattle.machine.specs.Step.{State, Call, step, run}
 use Rattle.machine.specs.Isolation.{Agree, Both, none, more, Alike, AlikeValue, same, pixels, parts, numbers, AlikeSaid, Obeys, Along, Throughout, less, lessOf, lessSaid}
 use Rattle.machine.proofs.Isolation.{isolation}
+
+eqb-self : (n : ℕ) → eqb n n ≡ true
+eqb-self n = eq-eqb n n refl
 
 module _ (k : ℕ) where
   agree-less : (x y : ℕ) → Agree k x y → less k x ≡ less k y
@@ -33,11 +36,10 @@ module _ (k : ℕ) where
 
   -- plane k's number is left out, the others are the same
   number-less : (f g : ℕ → ℕ) → ((p : ℕ) → p ≢ k → f p ≡ g p) → (p : ℕ) → lessOf k p (f p) ≡ lessOf k p (g p)
-  unfolding lessOf
   number-less f g h p = go (ℕ-discrete p k)
     where
-      go : Dec (p ≡ k) → pick (eqb p k) 0 (f p) ≡ pick (eqb p k) 0 (g p)
-      go (yes e) = rw (eq-eqb p k e)
+      go : Dec (p ≡ k) → lessOf k p (f p) ≡ lessOf k p (g p)
+      go (yes e) = unfold lessOf in rw e (simp eqb-self)
       go (no ne) = rw (h p ne)
 
   value-less : {v w : Value} → AlikeValue k v w → (n : ℕ) → lessSaid k (said n v) ≡ lessSaid k (said n w)
