@@ -250,7 +250,7 @@ COUNTS = [
     ("host/README.md", r"Each of the (\d+) functions", exported),
     ("docs/PROMISES.md", r"oracle/fixed\.lines: ([\d,]+) calls", lambda: calls("oracle/fixed.list")),
     ("docs/PROMISES.md", r"the (\d+) calls on records of numbers", lambda: exported() - starts()),
-    ("docs/DECISIONS.md", r"3 s for each of (\d+)\)", lambda: len(glob.glob("crates/machine/must-fail/*.edit"))),
+    ("docs/DECISIONS.md", r"\d s for each of (\d+)\)", lambda: len(glob.glob("crates/machine/must-fail/*.edit"))),
     ("docs/CHANGING.md", r"the (\d+) wrong edits of all crates", all_edits),
     ("oracle/README.md", r"`oracle generate 5 4000`: ([\d,]+) calls", lambda: calls("oracle/fixed.list")),
     ("oracle/README.md", r"calls, (\d+) of them digests", lambda: column("oracle/fixed.lines", 1, lambda x: x == "0")),

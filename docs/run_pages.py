@@ -139,6 +139,7 @@ static iddesmar_seq seq;
 static void next_device_on_the_bus(void) { printf("the next device's "); }
 int main(void) {
 %s
+    printf("%%d %%d %%d %%d, ", a.changed[0], a.changed[1], a.changed[2], a.changed[3]);
     for (int i = 0; i < 8; i++) printf(i ? " %%d" : "%%d", s.pixels[i]);
     printf("\\n");
     return s.number;
@@ -189,7 +190,7 @@ def held(piece, program, printed):
 
 
 def c_source(piece):
-    EXPECTED["a.out"] = re.search(r"eight pixels: ([\d ]+)", piece.text)[1]
+    EXPECTED["a.out"] = ", ".join(re.search(rf"{what}: (\d(?: \d)+)", piece.text)[1] for what in ("four numbers", "eight pixels"))
     with open(f"{OUT}/my_emulator.c", "w") as file:
         file.write(C_FRAME % piece.text)
 
@@ -369,6 +370,27 @@ def chained_bytes(piece):
         piece.fails("the rule and tape/examples/chain-four.out have " + "; ".join(" ".join(map(str, row)) for row in rule))
 
 
+# vram's stores by their operations in lists
+STORES = {"write_u8": 6, "plane_set": 7, "plane_and": 8, "plane_or": 9}
+
+
+def changed_bytes(piece):
+    """Stores into plane 2 at 0, one after the other: the bits that differ between a byte drawn and the one before it are counted here, and `replay` answers these numbers and leaves these bytes."""
+    old, calls, lines = 0, [], []
+    for line in piece.lines:
+        name, byte, drawn, bits, answers = re.fullmatch(r"(\w+) +([0-9A-F]{2}) +([.#](?: [.#]){7}) +(\d) bits? +answers (\d \d \d \d)", line).groups()
+        new = int(drawn.replace(" ", "").replace("#", "1").replace(".", "0"), 2)
+        count = bin(old ^ new).count("1")
+        if (bits, answers) != (str(count), f"0 0 {count} 0"):
+            piece.fails(f"{new:02X} over {old:02X} changes {count} bits")
+        calls += [f"{STORES[name]} 2 0 {int(byte, 16)}", "1 2 0"]
+        lines += [f"{len(lines) + 1} {STORES[name]} 0 {answers}", f"{len(lines) + 2} 1 0 {new}"]
+        old = new
+    said, _ = run("target/bin/replay", given="\n".join(calls) + "\n")
+    if said.split("\n") != [*lines, ""]:
+        piece.fails(f"`replay` says\n{said}")
+
+
 # The pieces, in their order: page, how the first line starts, what is done with it.
 PIECES = [
     ("README.md", "./run-tape", "shell", "commands"),
@@ -388,9 +410,11 @@ PIECES = [
     ("README.md", "./run-tape", "shell", "commands"),
     ("README.md", "address  ", chained_bytes, "held to the rule and to tape/examples/chain-four.out"),
     ("README.md", "./run-tape", "shell", "commands"),
+    ("README.md", "write_u8  0F", changed_bytes, "held to the bits that differ, and to what `replay` answers"),
+    ("README.md", "rt check replay", "shell", "commands"),
     ("README.md", "let r = graphics_controller", rattle, "held to the function's name, parameters and answer in crates/graphics_controller/src and crates/machine_types/src"),
     ("README.md", "rt staticlib", "shell", "commands"),
-    ("README.md", "gc = iddesmar_gc_new", c_piece, "compiled in a frame, linked and run; its pixels are those of its comment"),
+    ("README.md", "gc = iddesmar_gc_new", c_piece, "compiled in a frame, linked and run; its numbers and its pixels are those of its comments"),
     ("README.md", "oracle/check", "shell", "commands"),
     ("host/README.md", "rt staticlib", "shell", "commands"),
     ("host/README.md", "A0000: 0", None, "what host/example.c prints: host/run holds it to the page"),

@@ -169,7 +169,8 @@ pub fn cpu_peek_u8(
 
 // The answer of an accepted write that changed so much: its mode's counter goes up, registers and latches stay.
 fn write_done(gc: GraphicsController, changed: Changed) -> CpuStore
-    ensures { λ r. ⌜ outcome (storeSaid (r .answer)) (r .gc) ≡ outcome (said 0 (changedValue changed)) (gcOf (gc .registers) (counted (writeCounter (writeMode (gc .registers))) (gc .stats)) (gc .latches)) ⌝ }
+    ensures { λ r. ⌜ outcome (storeSaid (r .answer)) (r .gc)
+        ≡ outcome (said 0 (changedValue changed)) (gcOf (gc .registers) (counted (writeCounter (writeMode (gc .registers))) (gc .stats)) (gc .latches)) ⌝ }
 {
     let registers = gc.registers;
     let stats = counted_write(fields::gc::write_mode(registers), gc.stats);

@@ -17,7 +17,8 @@ use Rattle.machine.specs.Address.{offset}
 use Rattle.machine.specs.Deeds.{store, byte, any, laid, remade, stored, storedByte, changedBit, changedBits, changedAt, memoryAfter, valueOf, perform}
 use Rattle.machine.specs.Calls.{VramCall, readU8, peekU8, readGlyph, readLinear, serializeLinear, writeU8, planeSet, planeAnd, planeOr, deplane}
 use Rattle.machine.specs.Calls.{DirectCall, seqCpuReadU8, seqPeekU8, seqGcReadU8, seqReadLinear, seqSerializeLinear, seqPlaneSet, seqPlaneAnd, seqPlaneOr}
-use Rattle.machine.specs.Calls.{CpuCall, cpuRead, cpuPeek, cpuWrite, serialize, setBit, andBit, orBit, storeOne, unmasked, refuse, planeNumber, vramPlan, directPlan, accessNumber, writeDeed, cpuPlan}
+use Rattle.machine.specs.Calls.{CpuCall, cpuRead, cpuPeek, cpuWrite, serialize, setBit, andBit, orBit, storeOne, unmasked}
+use Rattle.machine.specs.Calls.{refuse, planeNumber, vramPlan, directPlan, accessNumber, writeDeed, cpuPlan}
 use Rattle.machine.specs.Step.{vramStep, directStep, cpuStep, State, Call, vram, sequencer, direct, graphics, cpu, step}
 use Rattle.machine.specs.Isolation.{accepted}
 use Rattle.machine.specs.Claims.{vramStores, directStores, cpuStores, isStore, changedBy, deedOf}

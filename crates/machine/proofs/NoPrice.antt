@@ -61,10 +61,10 @@ pub no-price : (cs : List Call) (s t : State) → Alike 3 s t → Along (Obeys 3
 no-price cs s t a h = answers-less 3 cs s t (isolation 3 cs s t a h)
 
 -- what `less` takes away, by computation: bit 3 of a pixel and of a part's pixels, and nothing of a byte, a refusal's number or an address;
--- of a store, with k as 0 to 3, plane k's number and no other
+-- of a store, with k as 0 to 3, plane k's number and no other, and none with k as 4
 pub less-told : map (lessSaid 3) (said 0 (one 0xFF) ∷ said 0 (two 0xFF 1) ∷ said 5 (pixel 0) ∷ said 0 (pixel 0xFF) ∷ said 0 (part (0 ∷ 7 ∷ 8 ∷ 15 ∷ 0xF7 ∷ [])) ∷ [])
-    ++ map (λ k. lessSaid k (said 0 (changes 5 6 7 8))) (0 ∷ 1 ∷ 2 ∷ 3 ∷ [])
+    ++ map (λ k. lessSaid k (said 0 (changes 5 6 7 8))) (0 ∷ 1 ∷ 2 ∷ 3 ∷ 4 ∷ [])
     ≡ said 0 (one 0xFF) ∷ said 0 (two 0xFF 1) ∷ said 5 (pixel 0) ∷ said 0 (pixel 0xF7) ∷ said 0 (part (0 ∷ 7 ∷ 0 ∷ 7 ∷ 0xF7 ∷ []))
-    ∷ said 0 (changes 0 6 7 8) ∷ said 0 (changes 5 0 7 8) ∷ said 0 (changes 5 6 0 8) ∷ said 0 (changes 5 6 7 0) ∷ []
+    ∷ said 0 (changes 0 6 7 8) ∷ said 0 (changes 5 0 7 8) ∷ said 0 (changes 5 6 0 8) ∷ said 0 (changes 5 6 7 0) ∷ said 0 (changes 5 6 7 8) ∷ []
 unfolding lessSaid less lessOf
 less-told = refl
