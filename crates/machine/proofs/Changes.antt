@@ -14,7 +14,7 @@ use Rattle.machine.specs.Memory.{Memory, plane, shape, Shaped}
 use Rattle.machine.specs.Answers.{Value, changes, changesOf, answered}
 use Rattle.machine.specs.Sequencer.{fitsSeq, inMask, storedAt}
 use Rattle.machine.specs.Address.{offset}
-use Rattle.machine.specs.Deeds.{store, byte, any, laid, remade, stored, storedByte, changedBit, changedBits, changedAt, memoryAfter, valueOf, perform}
+use Rattle.machine.specs.Deeds.{rest, load, store, remake, byte, any, laid, remade, stored, storedByte, changedBit, changedBits, changedAt, memoryAfter, valueOf, perform}
 use Rattle.machine.specs.Calls.{VramCall, readU8, peekU8, readGlyph, readLinear, serializeLinear, writeU8, planeSet, planeAnd, planeOr, deplane}
 use Rattle.machine.specs.Calls.{DirectCall, seqCpuReadU8, seqPeekU8, seqGcReadU8, seqReadLinear, seqSerializeLinear, seqPlaneSet, seqPlaneAnd, seqPlaneOr}
 use Rattle.machine.specs.Calls.{CpuCall, cpuRead, cpuPeek, cpuWrite, serialize, setBit, andBit, orBit, storeOne, unmasked}
@@ -146,6 +146,20 @@ unfolding memoryAfter changedBy
 store-changes o w f l m h q =
     let at = stored-changed o w (storedByte o f l m) m h q in
     rw (at 0 (lit< tt), at 1 (lit< tt), at 2 (lit< tt), at 3 (lit< tt))
+
+-- .. and a deed that is no store changes no bit, wherever one looks
+module _ (l : List ℕ) (m : Memory) (at p : ℕ) where
+  rest-changes : changedAt m (memoryAfter rest l m) at p ≡ changedBy rest l m p
+  unfolding memoryAfter changedBy changedAt
+  rest-changes = unchanged (byte m p at)
+
+  load-changes : (o : ℕ) → changedAt m (memoryAfter (load o) l m) at p ≡ changedBy (load o) l m p
+  unfolding memoryAfter changedBy changedAt
+  load-changes o = unchanged (byte m p at)
+
+  remake-changes : (o : ℕ) → changedAt m (memoryAfter (remake o) l m) at p ≡ changedBy (remake o) l m p
+  unfolding memoryAfter changedBy changedAt
+  remake-changes o = remade-changed m at o p m ∙ unchanged (byte m p at)
 
 -- ---- the eight stores
 
