@@ -20,13 +20,21 @@ over : ℕ → ℕ → ℕ → List ℕ
 unfolding says
 over old p x = says (vram (writeU8 p 2 old) ∷ []) (vram (planeSet p 2 x) ∷ [])
 
--- chain-four, Map Mask 0; each plane has 0F at 4 and 3F at 5, 6 and 7
-fourBytes : List Call
+-- a Memory Mode with chain-four, Map Mask 0; each plane has 0F at 4 and 3F at 5, 6 and 7
+fourBytes : ℕ → List Call
 unfolding gcTo seqTo
-fourBytes = filled 0 ++ (filled 1 ++ (filled 2 ++ (filled 3 ++ (gcTo 6 4 ++ (gcTo 8 0xFF ++ seqTo 4 12)))))
+fourBytes mode = filled 0 ++ (filled 1 ++ (filled 2 ++ (filled 3 ++ (gcTo 6 4 ++ (gcTo 8 0xFF ++ seqTo 4 mode)))))
   where
     filled : ℕ → List Call
     filled p = vram (writeU8 p 4 0x0F) ∷ vram (writeU8 p 5 0x3F) ∷ vram (writeU8 p 6 0x3F) ∷ vram (writeU8 p 7 0x3F) ∷ []
+
+-- the sequencer's three stores under chain-four at 4 + p, into the plane that this offset chooses, and into its neighbour
+chained : ℕ → ℕ → List ℕ
+unfolding says fourBytes
+chained mode p = says (fourBytes mode) (ofPlane p ++ ofPlane ((p + 1) % 4))
+  where
+    ofPlane : ℕ → List Call
+    ofPlane q = direct (seqPlaneAnd q (4 + p) true 5) ∷ direct (seqPlaneOr q (4 + p) false 0xF5) ∷ direct (seqPlaneSet q (4 + p) false 0x0A) ∷ []
 
 -- what is painted, latches loaded at offset 0, Set/Reset 5; Mode, Data Rotate and Bit Mask so. Then a write of x
 drawn : ℕ → ℕ → ℕ → ℕ → ℕ → List ℕ
@@ -54,7 +62,7 @@ four = 0 ∷ 1 ∷ 2 ∷ 3 ∷ []
 -- ---- the rules
 
 pub changing : List (List ℕ)
-unfolding over fourBytes drawn overUnmade misshapen odd four says saysFrom painted each gcTo seqTo case10 case11
+unfolding over fourBytes chained drawn overUnmade misshapen odd four says saysFrom painted each gcTo seqTo case10 case11
 changing =
     -- the counting: each bit set, each cleared; 0 to 8 of them in each plane
     each (over 0 0) (1 ∷ 2 ∷ 4 ∷ 8 ∷ 16 ∷ 32 ∷ 64 ∷ 128 ∷ [])
@@ -72,7 +80,7 @@ changing =
     -- .. under its odd/even: planes 0 and 2, then 1 and 3
     ∷ each (λ p. says (seqTo 2 15) (direct (seqPlaneSet p 3 false 0xFF) ∷ direct (seqPlaneSet p 4 true 0xFF) ∷ [])) four
     -- .. under chain-four: of the offset with its low two bits clear, and 0 where another plane is named
-    ∷ each (λ p. says fourBytes (direct (seqPlaneSet p (4 + p) false 0xFF) ∷ direct (seqPlaneSet ((p + 1) % 4) (4 + p) true 0) ∷ [])) four
+    ∷ (each (chained 12) four ++ each (chained 8) four)
     -- the processor's writes: mode 0 by each function, and through Bit Mask 3C; modes 1, 2 and 3
     ∷ each (λ n. drawn 0 n 0xFF 0xA0000 0x0F) (0 ∷ 8 ∷ 0x10 ∷ 0x18 ∷ [])
     ∷ drawn 0 0 0x3C 0xA0000 0x0F
@@ -84,8 +92,8 @@ changing =
     ∷ says (painted ++ seqTo 4 0) (cpu (cpuWrite 0xA0000 false 0xFF) ∷ cpu (cpuWrite 0xA0001 false 0xFF) ∷ [])
     ∷ says (painted ++ gcTo 5 0x10) (cpu (cpuWrite 0xA0000 false 0xFF) ∷ cpu (cpuWrite 0xA0001 false 0xFF) ∷ [])
     -- .. under chain-four, and where chain odd/even leads A0005 to offset 4
-    ∷ each (λ p. says fourBytes (cpu (cpuWrite (0xA0004 + p) false 0xFF) ∷ [])) four
-    ∷ says (fourBytes ++ (seqTo 4 4 ++ (seqTo 2 15 ++ gcTo 6 6))) (cpu (cpuWrite 0xA0005 false 0xFF) ∷ [])
+    ∷ each (λ mode. each (λ p. says (fourBytes mode) (cpu (cpuWrite (0xA0004 + p) false 0xFF) ∷ [])) four) (12 ∷ 8 ∷ [])
+    ∷ says (fourBytes 12 ++ (seqTo 4 4 ++ (seqTo 2 15 ++ gcTo 6 6))) (cpu (cpuWrite 0xA0005 false 0xFF) ∷ [])
     -- every refusal: 4 and 3, 2 and 3, 6, 1
     ∷ says painted (vram (writeU8 4 0 0) ∷ vram (planeSet 0 8 0) ∷ vram (planeAnd 4 0 0) ∷ vram (planeOr 3 8 0xFF) ∷ direct (seqPlaneSet 4 0 false 0) ∷ direct (seqPlaneAnd 0 8 false 0)
     ∷ direct (seqPlaneOr 7 0 false 0xFF) ∷ cpu (cpuWrite 0xB0000 false 0) ∷ cpu (cpuWrite 0xA0008 false 0) ∷ [])
@@ -115,7 +123,7 @@ changingSaid =
     ∷ (each (stored 2) (2 ∷ 0 ∷ 2 ∷ 8 ∷ 1 ∷ []) ++ (0 ∷ 0 ∷ []))
     ∷ each (stored 2) (2 ∷ 0 ∷ 2 ∷ 8 ∷ 0 ∷ 0 ∷ 0 ∷ [])
     ∷ (stored 0 8 ++ (stored 0 0 ++ (stored 1 0 ++ (stored 1 8 ++ (stored 2 8 ++ (stored 2 0 ++ (stored 3 0 ++ stored 3 8)))))))
-    ∷ each (λ p. stored p 4 ++ stored p 0) four
+    ∷ each (λ mode. each (λ p. each (stored p) (2 ∷ 4 ∷ 8 ∷ 0 ∷ 0 ∷ 0 ∷ [])) four) (12 ∷ 8 ∷ [])
     ∷ each (λ n. 0 ∷ replicate 4 n) (4 ∷ 1 ∷ 3 ∷ 4 ∷ [])
     ∷ (0 ∷ 3 ∷ 3 ∷ 1 ∷ 1 ∷ [])
     ∷ (0 ∷ 0 ∷ 0 ∷ 0 ∷ 0 ∷ 0 ∷ 2 ∷ 2 ∷ 2 ∷ 2 ∷ [])
@@ -124,7 +132,7 @@ changingSaid =
     ∷ (0 ∷ 0 ∷ 6 ∷ 6 ∷ 0 ∷ [])
     ∷ (0 ∷ 6 ∷ 0 ∷ 6 ∷ 0 ∷ 0 ∷ 0 ∷ 7 ∷ 0 ∷ 7 ∷ [])
     ∷ (0 ∷ 6 ∷ 0 ∷ 6 ∷ 0 ∷ 0 ∷ 0 ∷ 7 ∷ 0 ∷ 7 ∷ [])
-    ∷ each (λ p. stored p 4) four
+    ∷ each (λ mode. each (λ p. stored p 4) four) (12 ∷ 8 ∷ [])
     ∷ (0 ∷ 4 ∷ 4 ∷ 4 ∷ 4 ∷ [])
     ∷ each refused (4 ∷ 3 ∷ 4 ∷ 3 ∷ 4 ∷ 3 ∷ 4 ∷ 2 ∷ 3 ∷ [])
     ∷ each refused (replicate 4 6)
