@@ -20,18 +20,19 @@ over : ℕ → ℕ → ℕ → List ℕ
 unfolding says
 over old p x = says (vram (writeU8 p 2 old) ∷ []) (vram (planeSet p 2 x) ∷ [])
 
--- a Memory Mode with chain-four, Map Mask 0; each plane has 0F at 4 and 3F at 5, 6 and 7
-fourBytes : ℕ → List Call
-unfolding gcTo seqTo
-fourBytes mode = filled 0 ++ (filled 1 ++ (filled 2 ++ (filled 3 ++ (gcTo 6 4 ++ (gcTo 8 0xFF ++ seqTo 4 mode)))))
-  where
-    filled : ℕ → List Call
-    filled p = vram (writeU8 p 4 0x0F) ∷ vram (writeU8 p 5 0x3F) ∷ vram (writeU8 p 6 0x3F) ∷ vram (writeU8 p 7 0x3F) ∷ []
+-- plane p has 0F at 4, and 3F at another offset
+twoBytes : ℕ → ℕ → List Call
+twoBytes p at = vram (writeU8 p at 0x3F) ∷ vram (writeU8 p 4 0x0F) ∷ []
+
+-- .. which is 4 + p, and its neighbour the same; a Memory Mode with chain-four, Map Mask 0
+chainedTo : ℕ → ℕ → List Call
+unfolding twoBytes gcTo seqTo
+chainedTo mode p = twoBytes p (4 + p) ++ (twoBytes ((p + 1) % 4) (4 + p) ++ (gcTo 6 4 ++ (gcTo 8 0xFF ++ seqTo 4 mode)))
 
 -- the sequencer's three stores under chain-four at 4 + p, into the plane that this offset chooses, and into its neighbour
 chained : ℕ → ℕ → List ℕ
-unfolding says fourBytes
-chained mode p = says (fourBytes mode) (ofPlane p ++ ofPlane ((p + 1) % 4))
+unfolding says chainedTo
+chained mode p = says (chainedTo mode p) (ofPlane p ++ ofPlane ((p + 1) % 4))
   where
     ofPlane : ℕ → List Call
     ofPlane q = direct (seqPlaneAnd q (4 + p) true 5) ∷ direct (seqPlaneOr q (4 + p) false 0xF5) ∷ direct (seqPlaneSet q (4 + p) false 0x0A) ∷ []
@@ -62,7 +63,7 @@ four = 0 ∷ 1 ∷ 2 ∷ 3 ∷ []
 -- ---- the rules
 
 pub changing : List (List ℕ)
-unfolding over fourBytes chained drawn overUnmade misshapen odd four says saysFrom painted each gcTo seqTo case10 case11
+unfolding over twoBytes chainedTo chained drawn overUnmade misshapen odd four says saysFrom painted each gcTo seqTo case10 case11
 changing =
     -- the counting: each bit set, each cleared; 0 to 8 of them in each plane
     each (over 0 0) (1 ∷ 2 ∷ 4 ∷ 8 ∷ 16 ∷ 32 ∷ 64 ∷ 128 ∷ [])
@@ -92,8 +93,8 @@ changing =
     ∷ says (painted ++ seqTo 4 0) (cpu (cpuWrite 0xA0000 false 0xFF) ∷ cpu (cpuWrite 0xA0001 false 0xFF) ∷ [])
     ∷ says (painted ++ gcTo 5 0x10) (cpu (cpuWrite 0xA0000 false 0xFF) ∷ cpu (cpuWrite 0xA0001 false 0xFF) ∷ [])
     -- .. under chain-four, and where chain odd/even leads A0005 to offset 4
-    ∷ each (λ mode. each (λ p. says (fourBytes mode) (cpu (cpuWrite (0xA0004 + p) false 0xFF) ∷ [])) four) (12 ∷ 8 ∷ [])
-    ∷ says (fourBytes 12 ++ (seqTo 4 4 ++ (seqTo 2 15 ++ gcTo 6 6))) (cpu (cpuWrite 0xA0005 false 0xFF) ∷ [])
+    ∷ each (λ mode. each (λ p. says (chainedTo mode p) (cpu (cpuWrite (0xA0004 + p) false 0xFF) ∷ [])) four) (12 ∷ 8 ∷ [])
+    ∷ says (twoBytes 0 5 ++ (twoBytes 1 5 ++ (twoBytes 2 5 ++ (twoBytes 3 5 ++ (gcTo 6 6 ++ (gcTo 8 0xFF ++ (seqTo 4 4 ++ seqTo 2 15))))))) (cpu (cpuWrite 0xA0005 false 0xFF) ∷ [])
     -- every refusal: 4 and 3, 2 and 3, 6, 1
     ∷ says painted (vram (writeU8 4 0 0) ∷ vram (planeSet 0 8 0) ∷ vram (planeAnd 4 0 0) ∷ vram (planeOr 3 8 0xFF) ∷ direct (seqPlaneSet 4 0 false 0) ∷ direct (seqPlaneAnd 0 8 false 0)
     ∷ direct (seqPlaneOr 7 0 false 0xFF) ∷ cpu (cpuWrite 0xB0000 false 0) ∷ cpu (cpuWrite 0xA0008 false 0) ∷ [])
