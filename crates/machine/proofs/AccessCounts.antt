@@ -21,7 +21,7 @@ use Rattle.machine.proofs.Worked.{start, gcTo, seqTo, saysFrom, says, e
 -- ---- states
 
 -- all counters at one number; the 64K window and Set/Reset so, the other registers at their start
-counting : ℕ → ℕ → GraphicsController
+unfoldable pub counting : ℕ → ℕ → GraphicsController
 counting n x = record {
   registers = record {
     «register_select_byte» = 0;
@@ -41,7 +41,7 @@ counting n x = record {
 }
 
 -- the sequencer at its start, but for Map Mask
-masking : ℕ → Sequencer
+unfoldable pub masking : ℕ → Sequencer
 masking x = record {
   «address_byte» = 0;
   «register_selected» = Reset;
@@ -56,7 +56,7 @@ masking x = record {
 }
 
 -- eight bytes in planes 0 to 2, so many in plane 3
-planesOf : ℕ → Memory
+unfoldable pub planesOf : ℕ → Memory
 planesOf n = mem (replicate 8 0) (replicate 8 0) (replicate 8 0) (replicate n 0) (replicate 64 0)
 
 -- ---- the rules

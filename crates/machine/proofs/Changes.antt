@@ -17,7 +17,7 @@ use Rattle.machine.specs.Address.{offset}
 use Rattle.machine.specs.Deeds.{rest, load, store, remake, byte, any, laid, remade, stored, storedByte, changedBit, changedBits, changedAt, memoryAfter, valueOf, perform}
 use Rattle.machine.specs.Calls.{VramCall, readU8, peekU8, readGlyph, readLinear, serializeLinear, writeU8, planeSet, planeAnd, planeOr, deplane}
 use Rattle.machine.specs.Calls.{DirectCall, seqCpuReadU8, seqPeekU8, seqGcReadU8, seqReadLinear, seqSerializeLinear, seqPlaneSet, seqPlaneAnd, seqPlaneOr}
-use Rattle.machine.specs.Calls.{CpuCall, cpuRead, cpuPeek, cpuWrite, serialize, setBit, andBit, orBit, storeOne, unmasked}
+use Rattle.machine.specs.Calls.{CpuCall, cpuRead, cpuPeek, cpuWrite, serialize, showPixels, setBit, andBit, orBit, storeOne, unmasked}
 use Rattle.machine.specs.Calls.{refuse, planeNumber, vramPlan, directPlan, accessNumber, writeDeed, cpuPlan}
 use Rattle.machine.specs.Step.{vramStep, directStep, cpuStep, State, Call, vram, sequencer, direct, graphics, cpu, step}
 use Rattle.machine.specs.Isolation.{accepted}
@@ -235,6 +235,7 @@ module _ (s : State) where
       let a = access-accepted (shape (s .memory)) r (s .seq) x page z in
       store-changes (storedAt (s .seq) o) _ _ (s .gc .latches) (s .memory) (a .shaped) (stored-at-lt (s .seq) o refl (a .offset))
   cpu-changes (serialize o) t = absurd (apart t)
+  cpu-changes (showPixels o) t = absurd (apart t)
 
 -- K6
 pub changes-counted : (s : State) (c : Call) → isStore c ≡ true → accepted s c → step s c .answer .value ≡ changesOf (changedBy (deedOf s c) (s .gc .latches) (s .memory))

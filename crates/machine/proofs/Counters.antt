@@ -22,8 +22,8 @@ use Rattle.machine.specs.Answers.{Value, answered}
 use Rattle.machine.specs.Graphics.{readMode, writeMode, memoryMap}
 use Rattle.machine.specs.Address.{inWindow, offset}
 use Rattle.machine.specs.Calls.{GraphicsCall, gcReset, gcChain, gcChain4, gcMemoryMap, gcOddEven, gcShiftMode, gcReadAddress, gcReadData, gcWriteAddress}
-use Rattle.machine.specs.Calls.{gcWriteData, gcMapAddress, gcNumberOf, gcValue, gcNext, refuse, fitsBoth, accessNumber, showNumber}
-use Rattle.machine.specs.Calls.{CpuCall, cpuRead, cpuPeek, cpuWrite, serialize, writeCounter, readCounter, refusedCounter, noCounter, isCounted, refusalCounter, counted, cpuPlan}
+use Rattle.machine.specs.Calls.{gcWriteData, gcMapAddress, gcNumberOf, gcValue, gcNext, refuse, fitsBoth, accessNumber, showNumber, pixelsNumber}
+use Rattle.machine.specs.Calls.{CpuCall, cpuRead, cpuPeek, cpuWrite, serialize, showPixels, writeCounter, readCounter, refusedCounter, noCounter, isCounted, refusalCounter, counted, cpuPlan}
 use Rattle.machine.specs.Step.{graphicsStep, cpuStep, Device, State, Call, vram, sequencer, direct, graphics, cpu, step, run}
 use Rattle.machine.specs.Claims.{turnsAway, total, sevenTotal, accesses, sinceReset, countsWhere, tallyWhere, inSix, inSeven, tally, sevenTally}
 use Rattle.machine.proofs.Laws.{answered-number, none-raised}
@@ -131,6 +131,7 @@ module _ (c : GraphicsControllerStats) where
     accepted-moved (cpuPeek x page) = unmoved
     accepted-moved (cpuWrite x page v) = write-moved (writeMode r)
     accepted-moved (serialize o) = unmoved
+    accepted-moved (showPixels o) = unmoved
 
     -- a refused one raises the seventh alone, where it is turned away
     refused-moved : (n : ℕ) (a : CpuCall) → Moved 0 (pick (turnsAway a n) 1 0) (counted (refusalCounter n (cpuPlan r s h a .turnedAway)) c) c
@@ -139,6 +140,7 @@ module _ (c : GraphicsControllerStats) where
     refused-moved n (cpuPeek x page) = rw (none-raised n) unmoved
     refused-moved n (cpuWrite x page v) = turned (isCounted n)
     refused-moved n (serialize o) = rw (none-raised n) unmoved
+    refused-moved n (showPixels o) = rw (none-raised n) unmoved
 
 answered-moved : (n i j : ℕ) (v : Value) (new old : Device) (c : GraphicsControllerStats) → Moved i 0 (new .gc .stats) c → Moved 0 j (old .gc .stats) c
     → Moved (pick (eqb n 0) i 0) (pick (eqb n 0) 0 j) (answered n v new old .next .gc .stats) c
@@ -197,6 +199,7 @@ counted-once r s h (cpuRead x page) = by-number (Once (cpuRead x page)) refl ref
 counted-once r s h (cpuPeek x page) = never-counted (accessNumber r s h x page)
 counted-once r s h (cpuWrite x page v) = by-number (Once (cpuWrite x page v)) refl refl refl refl refl r s h x page
 counted-once r s h (serialize o) = never-counted (showNumber r s h o)
+counted-once r s h (showPixels o) = never-counted (pixelsNumber r s h o)
 
 -- the seven: every access, apart from those answered 6 or 1
 seven-counts : Counts sevenTotal inSeven

@@ -8,7 +8,7 @@ use Rattle.machine.specs.Calls.{VramCall, readU8, peekU8, readGlyph, rea
 use Rattle.machine.specs.Calls.{SequencerCall, seqReset, seqClock, seqSetClockChangePending, seqPollClockChange, seqReadAddress, seqReadData, seqWriteAddress, seqWriteData}
 use Rattle.machine.specs.Calls.{DirectCall, seqCpuReadU8, seqPeekU8, seqGcReadU8, seqReadLinear, seqSerializeLinear, seqPlaneSet, seqPlaneAnd, seqPlaneOr}
 use Rattle.machine.specs.Calls.{GraphicsCall, gcReset, gcChain, gcChain4, gcMemoryMap, gcOddEven, gcShiftMode, gcReadAddress, gcReadData, gcWriteAddress, gcWriteData, gcMapAddress}
-use Rattle.machine.specs.Calls.{CpuCall, cpuRead, cpuPeek, cpuWrite, serialize}
+use Rattle.machine.specs.Calls.{CpuCall, cpuRead, cpuPeek, cpuWrite, serialize, showPixels}
 use Rattle.machine.specs.Step.{Call, vram, sequencer, direct, graphics, cpu}
 
 -- the calls on memory alone
@@ -66,10 +66,11 @@ cpuKind (cpuRead x page) = 37
 cpuKind (cpuPeek x page) = 38
 cpuKind (cpuWrite x page v) = 39
 cpuKind (serialize o) = 40
+cpuKind (showPixels o) = 41
 
 -- how many kinds there are
 abbrev pub kinds : ℕ
-kinds = 41
+kinds = 42
 
 -- the kind of a call
 abbrev pub kind : Call → ℕ

@@ -8,20 +8,21 @@ use mathlib.Core.List.{List, [], _∷_, _++_}
 use lib.ListN.{getD, replicate}
 use Rattle.bits.specs.Bit.{bit, ofBits}
 use Rattle.bits.proofs.Decide.{agree1}
+use Rattle.machine_types.specs.declared.gc.ShiftMode.the-variants.{Standard, CGACompatible, Chain4}
 use Rattle.machine.specs.Memory.{Memory, mem}
-use Rattle.machine.specs.Answers.{one, two, Said, said}
+use Rattle.machine.specs.Answers.{one, two, shown, noPixels, Said, said}
 use Rattle.machine.specs.Deeds.{pixelOf}
 use Rattle.machine.specs.Calls.{readU8, peekU8, readGlyph, readLinear, serializeLinear, writeU8, planeSet, planeAnd, planeOr, deplane}
 use Rattle.machine.specs.Calls.{seqReset, seqClock, seqSetClockChangePending, seqPollClockChange, seqReadAddress, seqReadData}
 use Rattle.machine.specs.Calls.{seqCpuReadU8, seqPeekU8, seqGcReadU8, seqReadLinear, seqSerializeLinear, seqPlaneSet, seqPlaneAnd, seqPlaneOr}
 use Rattle.machine.specs.Calls.{gcReset, gcChain, gcChain4, gcMemoryMap, gcOddEven, gcShiftMode, gcReadAddress, gcReadData, gcMapAddress}
-use Rattle.machine.specs.Calls.{cpuRead, cpuPeek, cpuWrite, serialize}
+use Rattle.machine.specs.Calls.{cpuRead, cpuPeek, cpuWrite, serialize, showPixels}
 use Rattle.machine.specs.Step.{State, Call, vram, sequencer, direct, graphics, cpu}
 use Rattle.machine.specs.Isolation.{Alike, Obeys, Along, Throughout}
 use Rattle.machine.specs.Claims.{total, sevenTotal, countsWhere, tallyWhere, tally, sevenTally, Matches}
 use Rattle.machine.proofs.Isolation.{isolation}
 use Rattle.machine.proofs.Computed.{computed}
-use Rattle.machine.proofs.Worked.{gcTo, seqTo, aNumber, aPixel, aShow, aStore}
+use Rattle.machine.proofs.Worked.{gcTo, seqTo, aNumber, aPixel, aShow, aStore, pixelsIn}
 use Rattle.machine.proofs.Questions.{quiet, quiet-obeys}
 use Rattle.machine.proofs.AlikeStates.{withPlane, with-plane-alike}
 use Rattle.machine.proofs.EveryKind.{everyKind}
@@ -121,9 +122,14 @@ chained : List Call
 unfolding gcTo seqTo
 chained = seqTo 4 12 ++ (gcTo 5 0 ++ (gcTo 4 3 ++ (cpu (cpuRead 0xA0001 false) ∷ cpu (cpuPeek 0xA0001 false) ∷ cpu (cpuPeek 0xA0003 false) ∷ [])))
 
+-- shown in every shift mode, still under chain-four: Chain4, CGACompatible and a show of it past the planes, Standard
+showing : List Call
+unfolding gcTo
+showing = gcTo 5 0x40 ++ (cpu (showPixels 0) ∷ (gcTo 5 0x20 ++ (cpu (showPixels 0) ∷ cpu (showPixels 1) ∷ (gcTo 5 0 ++ (cpu (showPixels 0) ∷ [])))))
+
 pub calls : List Call
-unfolding painting reading shading storing ports chained
-calls = painting ++ (reading ++ (shading ++ (storing ++ (ports ++ chained))))
+unfolding painting reading shading storing ports chained showing
+calls = painting ++ (reading ++ (shading ++ (storing ++ (ports ++ (chained ++ showing)))))
 
 every-kind : everyKind calls ≡ true
 unfolding everyKind calls gcTo seqTo
@@ -132,9 +138,10 @@ every-kind = refl
 -- ---- what is answered
 
 -- the answers of either run, but for the pixels: an offset's eight, the same before they were ever made, pixels 1 and 6, an offset's eight with the bar;
--- and but for plane 3's number of three stores (K6): of the latches stored, of its byte put, of its byte masked
-labelSays : List ℕ → List ℕ → ℕ → ℕ → List ℕ → ℕ → ℕ → ℕ → List Said
-labelSays eight unmade second seventh barred copied put kept =
+-- and but for plane 3's number of three stores (K6): of the latches stored, of its byte put, of its byte masked;
+-- and but for plane 3's two pixels of a Chain4 show, and an offset's eight at the end (K3)
+labelSays : List ℕ → List ℕ → ℕ → ℕ → List ℕ → ℕ → ℕ → ℕ → ℕ → ℕ → List ℕ → List Said
+labelSays eight unmade second seventh barred copied put kept high low last =
     -- the registers written, the read, the store, the registers written
     replicate 8 (aNumber 0)
     ++ (aNumber 0xF0
@@ -186,14 +193,26 @@ labelSays eight unmade second seventh barred copied put kept =
     ∷ aNumber 0x3C
     ∷ said 0 (two 1 1)
     -- the registers written, plane 1's byte at offset 0 read and peeked, refusal 3
-    ∷ (replicate 6 (aNumber 0) ++ (aNumber 0xCC ∷ aNumber 0xCC ∷ said 3 (one 0) ∷ [])))))))))
+    ∷ (replicate 6 (aNumber 0)
+    ++ (aNumber 0xCC
+    ∷ aNumber 0xCC
+    ∷ said 3 (one 0)
+    -- planes 0F, CC, AA and the price by four bits; plane 0's 0F and plane 1's next byte FF by two; refusal 5; the picture
+    ∷ (replicate 2 (aNumber 0)
+    ++ (pixelsIn Chain4 (0 ∷ 15 ∷ 12 ∷ 12 ∷ 10 ∷ 10 ∷ high ∷ low ∷ [])
+    ∷ (replicate 2 (aNumber 0)
+    ++ (pixelsIn CGACompatible (0 ∷ 0 ∷ 3 ∷ 3 ∷ 3 ∷ 3 ∷ 3 ∷ 3 ∷ [])
+    ∷ said 5 (shown CGACompatible noPixels)
+    ∷ (replicate 2 (aNumber 0) ++ (pixelsIn Standard last ∷ [])))))))))))))))
 
 cheap-says : computed cheap calls .answers ≡ labelSays (7 ∷ 3 ∷ 5 ∷ 1 ∷ 6 ∷ 2 ∷ 4 ∷ 0 ∷ []) (replicate 8 0) 3 4 (7 ∷ 3 ∷ 5 ∷ 1 ∷ 15 ∷ 11 ∷ 4 ∷ 0 ∷ []) 2 4 0
+    8 13 (14 ∷ 2 ∷ 4 ∷ 0 ∷ 15 ∷ 11 ∷ 5 ∷ 9 ∷ [])
 unfolding cheap calls gcTo seqTo labelSays computed
 cheap-says = refl
 
--- the same, but for bit 3 of the pixels that carry the price, and for how many bits of plane 3 three stores changed
+-- the same, but for bit 3 of the pixels that carry the price, for how many bits of plane 3 three stores changed, and for the last two pixels of the Chain4 show
 dear-says : computed dear calls .answers ≡ labelSays (7 ∷ 11 ∷ 13 ∷ 9 ∷ 14 ∷ 10 ∷ 12 ∷ 0 ∷ []) (replicate 8 8) 11 12 (7 ∷ 11 ∷ 13 ∷ 9 ∷ 7 ∷ 3 ∷ 12 ∷ 0 ∷ []) 4 6 2
+    11 1 (14 ∷ 2 ∷ 12 ∷ 8 ∷ 7 ∷ 3 ∷ 5 ∷ 9 ∷ [])
 unfolding dear calls gcTo seqTo labelSays computed
 dear-says = refl
 

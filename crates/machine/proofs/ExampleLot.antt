@@ -6,14 +6,15 @@ use mathlib.Core.Path.{_≡_, refl}
 use mathlib.Core.Bool.{false}
 use mathlib.Core.List.{List, [], _∷_, _++_}
 use lib.ListN.{getD, replicate}
+use Rattle.machine_types.specs.declared.gc.ShiftMode.the-variants.{CGACompatible, Chain4}
 use Rattle.machine.specs.Memory.{mem}
 use Rattle.machine.specs.Answers.{one, Said, said}
-use Rattle.machine.specs.Calls.{readU8, peekU8, readGlyph, readLinear, seqCpuReadU8, seqPeekU8, seqGcReadU8, cpuRead, cpuPeek, cpuWrite, serialize}
+use Rattle.machine.specs.Calls.{readU8, peekU8, readGlyph, readLinear, seqCpuReadU8, seqPeekU8, seqGcReadU8, cpuRead, cpuPeek, cpuWrite, serialize, showPixels}
 use Rattle.machine.specs.Step.{State, Call, vram, direct, cpu}
 use Rattle.machine.specs.Isolation.{Alike, Obeys, Along, Throughout, Asked, asksPeek}
 use Rattle.machine.proofs.Isolation.{isolation}
 use Rattle.machine.proofs.Computed.{computed}
-use Rattle.machine.proofs.Worked.{gcTo, seqTo, aNumber, aPixel, aShow, aStore}
+use Rattle.machine.proofs.Worked.{gcTo, seqTo, aNumber, aPixel, aShow, aStore, pixelsIn}
 use Rattle.machine.proofs.Questions.{quiet, quiet-obeys}
 use Rattle.machine.proofs.AlikeStates.{withPlane, with-plane-alike}
 
@@ -67,13 +68,15 @@ lotCalls =
     ∷ cpu (cpuPeek 0xA0001 false)
     ∷ cpu (cpuPeek 0xA0004 false)
     ∷ cpu (cpuPeek 0xB0000 false)
-    ∷ []))))))))))))))))
+    -- shown in CGACompatible and in Chain4
+    ∷ (gcTo 5 0x20 ++ (cpu (showPixels 0) ∷ (gcTo 5 0x40 ++ (cpu (showPixels 1) ∷ []))))))))))))))))))))
 
 -- ---- what is answered, and what is left: plane 0 differs and changes
 
--- the answers of either run, but for the pixels, an offset's eight and one of the other's, and for plane 0's number of the store
-lotSays : List ℕ → ℕ → ℕ → List Said
-lotSays eight first changed =
+-- the answers of either run, but for the pixels, an offset's eight and one of the other's, for plane 0's number of the store, and for plane 0's pixels of two shows,
+-- the first four in CGACompatible, the first two in Chain4
+lotSays : List ℕ → ℕ → ℕ → List ℕ → List ℕ → List Said
+lotSays eight first changed fours twos =
     replicate 8 (aNumber 0)
     ++ (aNumber 0xAA
     ∷ (replicate 2 (aNumber 0)
@@ -89,14 +92,21 @@ lotSays eight first changed =
     ∷ aNumber 0xCC
     ∷ aNumber 0xAA
     ∷ aNumber 0xA5
-    ∷ (replicate 6 (aNumber 0) ++ (aNumber 0xCC ∷ aNumber 0xCC ∷ said 3 (one 0) ∷ said 2 (one 0) ∷ [])))))))
+    ∷ (replicate 6 (aNumber 0)
+    ++ (aNumber 0xCC
+    ∷ aNumber 0xCC
+    ∷ said 3 (one 0)
+    ∷ said 2 (one 0)
+    ∷ (replicate 2 (aNumber 0)
+    ++ (pixelsIn CGACompatible (fours ++ (3 ∷ 0 ∷ 1 ∷ 1 ∷ []))
+    ∷ (replicate 2 (aNumber 0) ++ (pixelsIn Chain4 (twos ++ (12 ∷ 5 ∷ 10 ∷ 5 ∷ 7 ∷ 5 ∷ [])) ∷ [])))))))))))
 
-early-says : computed early lotCalls .answers ≡ lotSays (6 ∷ 10 ∷ 12 ∷ 8 ∷ 0 ∷ 15 ∷ 0 ∷ 15 ∷ []) 0 2
+early-says : computed early lotCalls .answers ≡ lotSays (6 ∷ 10 ∷ 12 ∷ 8 ∷ 0 ∷ 15 ∷ 0 ∷ 15 ∷ []) 0 2 (0 ∷ 0 ∷ 3 ∷ 3 ∷ []) (0 ∷ 5 ∷ [])
 unfolding early lotCalls lotSays computed
 early-says = refl
 
--- the same, but for bit 0 of the pixels and plane 0's number
-late-says : computed late lotCalls .answers ≡ lotSays (7 ∷ 11 ∷ 13 ∷ 9 ∷ 0 ∷ 15 ∷ 0 ∷ 15 ∷ []) 1 4
+-- the same, but for bit 0 of the pixels, plane 0's number and plane 0's pixels of the shows
+late-says : computed late lotCalls .answers ≡ lotSays (7 ∷ 11 ∷ 13 ∷ 9 ∷ 0 ∷ 15 ∷ 0 ∷ 15 ∷ []) 1 4 (3 ∷ 3 ∷ 0 ∷ 0 ∷ []) (15 ∷ 5 ∷ [])
 unfolding late lotCalls lotSays computed
 late-says = refl
 

@@ -1,8 +1,8 @@
 -- Each answer is told by its number and value: what is said of two answers is the same only where they are. By a way back for each kind of answer.
 use Prim.Native.Nat.{ℕ}
-use mathlib.Core.Path.{_≡_, refl, sym, ap, _∙_}
+use mathlib.Core.Path.{_≡_, refl, sym, ap, ap₂, _∙_}
 use mathlib.Core.Bool.{true, false}
-use mathlib.Core.List.{[], _∷_}
+use mathlib.Core.List.{List, [], _∷_}
 use lib.Dec.{eqb}
 use lib.ListN.{getD}
 use Rattle.bits.specs.Bit.{isOne, pick}
@@ -27,14 +27,15 @@ use Rattle.machine_types.specs.declared.answer.ShiftAnswer.{ShiftAnswer}
 use Rattle.machine_types.specs.declared.answer.ShiftAnswer.the-variants.{Done as ShiftDone, Refused as ShiftRefused}
 use Rattle.machine_types.specs.declared.answer.MappedAnswer.{MappedAnswer}
 use Rattle.machine_types.specs.declared.answer.MappedAnswer.the-variants.{Done as MappedDone, Refused as MappedRefused}
+use Rattle.machine_types.specs.declared.answer.ShownPixels.{ShownPixels}
 use Rattle.machine_types.specs.declared.gc.MemoryMap.{MemoryMap}
 use Rattle.machine_types.specs.declared.gc.MemoryMap.the-variants.{«A0000_128k», «A0000_64K», «B0000_32K», «B8000_32K»}
 use Rattle.machine_types.specs.declared.gc.OddEvenModeComplement.{OddEvenModeComplement}
 use Rattle.machine_types.specs.declared.gc.OddEvenModeComplement.the-variants.{Sequential, OddEven}
 use Rattle.machine_types.specs.declared.gc.ShiftMode.{ShiftMode}
 use Rattle.machine_types.specs.declared.gc.ShiftMode.the-variants.{Standard, CGACompatible, Chain4, Unused}
-use Rattle.machine.specs.Answers.{refusalNumber, Value, one, two, pixel, part, changes, pixelsOf, Said, Outcome, outcome, byteSaid, pixelSaid, storeSaid, doneSaid}
-use Rattle.machine.specs.Answers.{flagSaid, clockSaid, mapSaid, oddEvenSaid, shiftSaid, mappedSaid}
+use Rattle.machine.specs.Answers.{refusalNumber, Value, one, two, pixel, part, changes, shown, pixelsOf, Said, said, Outcome, outcome, byteSaid, pixelSaid, storeSaid, doneSaid}
+use Rattle.machine.specs.Answers.{flagSaid, clockSaid, mapSaid, oddEvenSaid, shiftSaid, mappedSaid, shownSaid}
 
 -- two outcomes that are the machine's are one: the same is said, and the same is left
 module _ {S : Type 0} {a b : Said} {s t : S} {o : Outcome S} (p : outcome a s ≡ o) (q : outcome b t ≡ o) where
@@ -61,6 +62,7 @@ first (two x y) = x
 first (pixel x) = x
 first (part l) = 0
 first (changes a b c d) = a
+first (shown d l) = 0
 
 second : Value → ℕ
 second (one x) = 0
@@ -68,6 +70,7 @@ second (two x y) = y
 second (pixel x) = 0
 second (part l) = 0
 second (changes a b c d) = b
+second (shown d l) = 0
 
 -- the four numbers of a store
 changedBack : Value → Changed
@@ -76,6 +79,7 @@ changedBack (two x y) = record { p0 = x; p1 = y; p2 = 0; p3 = 0 }
 changedBack (pixel x) = record { p0 = x; p1 = 0; p2 = 0; p3 = 0 }
 changedBack (part l) = record { p0 = 0; p1 = 0; p2 = 0; p3 = 0 }
 changedBack (changes a b c d) = record { p0 = a; p1 = b; p2 = c; p3 = d }
+changedBack (shown d l) = record { p0 = 0; p1 = 0; p2 = 0; p3 = 0 }
 
 -- refusal 1, 2, ..
 refusalOf : ℕ → Refusal
@@ -128,6 +132,20 @@ done-injective = injective doneSaid (answerOf (λ v. Done) Refused) way
     way : (a : DoneAnswer) → answerOf (λ v. Done) Refused (doneSaid a) ≡ a
     way Done = unfold answerOf in refl
     way (Refused r) = back-refused _ _ r _
+
+-- its number tells the answer of a call that hands nothing back
+done-said : (a : DoneAnswer) → doneSaid a ≡ said (doneSaid a .number) (one 0)
+done-said Done = refl
+done-said (Refused r) = refl
+
+done-by-number : (a b : DoneAnswer) → doneSaid a .number ≡ doneSaid b .number → a ≡ b
+done-by-number a b e = done-injective a b (done-said a ∙ ap (λ (n : ℕ). said n (one 0)) e ∙ sym (done-said b))
+
+-- two shows in one shift mode: their answers and their pixels
+pub shown-injective : (d : ShiftMode) (a b : ShownPixels) → shownSaid d a ≡ shownSaid d b → a ≡ b
+shown-injective d a b e =
+    ap₂ (λ (x : DoneAnswer) (l : List ℕ). record { answer = x; pixels = l }) (done-by-number (a .answer) (b .answer) (ap (λ (s : Said). s .number) e))
+    (ap (λ (s : Said). pixelsOf (s .value)) e)
 
 pub flag-injective : (a b : FlagAnswer) → flagSaid a ≡ flagSaid b → a ≡ b
 flag-injective = injective flagSaid (answerOf (λ v. FlagDone (isOne (first v))) FlagRefused) way

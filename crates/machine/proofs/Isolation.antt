@@ -1,5 +1,5 @@
 -- Demand 3: two runs alike but for plane k stay so. Proved once over deeds and replies, whatever the number of calls.
-use Prim.Native.Nat.{ℕ, zero, suc, _-_, _<_}
+use Prim.Native.Nat.{ℕ, zero, suc, _+_, _*_, _-_, _/_, _<_}
 use native.Mathlib.Decide.{decLt, ℕ-discrete}
 use native.Mathlib.Omega.{arith}
 use mathlib.Core.Logic.{_≢_}
@@ -14,24 +14,27 @@ use Rattle.machine_types.specs.declared.gc.GraphicsController.{GraphicsControll
 use Rattle.machine_types.specs.declared.gc.GraphicsRegisters.{GraphicsRegisters}
 use Rattle.machine_types.specs.declared.gc.ReadMode.{ReadMode}
 use Rattle.machine_types.specs.declared.gc.ReadMode.the-variants.{ReadSelectedPlane, ReadComparedPlanes}
+use Rattle.machine_types.specs.declared.gc.ShiftMode.{ShiftMode}
+use Rattle.machine_types.specs.declared.gc.ShiftMode.the-variants.{Standard, CGACompatible, Chain4, Unused}
 use Rattle.machine_types.specs.declared.seq.Sequencer.{Sequencer}
 use Rattle.machine_types.specs.declared.shape.Shape.{Shape}
 use Rattle.machine.specs.Memory.{Memory, plane, planes, shape}
 use Rattle.machine.specs.Answers.{Value, blank, Outcome, answered}
 use Rattle.machine.specs.Graphics.{gcOf, readMode, withAddress, withData}
 use Rattle.machine.specs.Address.{offset}
-use Rattle.machine.specs.Deeds.{Deed, rest, load, store, remake, Reply, known, byteAt, compare, pixelAt, pixelsAt, changesAt, Plan, byte, latch, loaded, pixelOf, eight}
-use Rattle.machine.specs.Deeds.{remade, storedByte, laid, any, stored, agrees, compared, changedBits, changedAt, latchesAfter, memoryAfter, valueOf, perform}
+use Rattle.machine.specs.Deeds.{Deed, rest, load, store, remake, Reply, known, byteAt, compare, pixelAt, pixelsAt, changesAt, shownAt, Plan, byte, latch, loaded, pixelOf, eight}
+use Rattle.machine.specs.Deeds.{remade, storedByte, laid, any, stored, agrees, compared, changedBits, changedAt, nibble, pair, chain4Pixel, cgaPixel, shownIn, latchesAfter, memoryAfter}
+use Rattle.machine.specs.Deeds.{valueOf, perform}
 use Rattle.machine.specs.Calls.{VramCall, readU8, peekU8, readGlyph, readLinear, serializeLinear, writeU8, planeSet, planeAnd, planeOr, deplane, vramPlan}
 use Rattle.machine.specs.Calls.{DirectCall, seqCpuReadU8, seqPeekU8, seqGcReadU8, seqReadLinear, seqSerializeLinear, seqPlaneSet, seqPlaneAnd, seqPlaneOr, directPlan}
 use Rattle.machine.specs.Calls.{GraphicsCall, gcReset, gcChain, gcChain4, gcMemoryMap, gcOddEven, gcShiftMode, gcReadAddress, gcReadData, gcWriteAddress}
 use Rattle.machine.specs.Calls.{gcWriteData, gcMapAddress, gcNumberOf, gcValue, gcNext}
-use Rattle.machine.specs.Calls.{CpuCall, cpuRead, cpuPeek, cpuWrite, serialize, CpuPlan, cpuPlan, readReply, refusalCounter, counted}
+use Rattle.machine.specs.Calls.{CpuCall, cpuRead, cpuPeek, cpuWrite, serialize, showPixels, CpuPlan, cpuPlan, readReply, refusalCounter, counted}
 use Rattle.machine.specs.Step.{vramStep, sequencerStep, directStep, graphicsStep, Device, cpuAfter, cpuRefused, cpuPerform, cpuStep, State, Call, vram, sequencer}
 use Rattle.machine.specs.Step.{direct, graphics, cpu, lifted, step}
 use Rattle.machine.specs.Isolation.{Agree, Both, none, more, AlikeMemory, AlikeLatches, AlikeGc, Alike, vramNotFrom, directNotFrom, selectedNotFrom, cpuNotFrom}
 use Rattle.machine.specs.Isolation.{NotFrom, comparedWithout, cpuWithout, ComparesWithout, cpuNoPeek, NoPeek, Obeys, Along}
-use Rattle.machine.specs.Isolation.{AlikeValue, same, pixels, parts, numbers, Together, Throughout}
+use Rattle.machine.specs.Isolation.{AlikePixel, AlikeShow, AlikeValue, same, pixels, parts, numbers, shows, Together, Throughout}
 use Rattle.machine.proofs.Laws.{answered-number}
 
 -- ---- lists related entry by entry
@@ -65,6 +68,18 @@ module _ {A : Type 0} {R : A → A → Type 0} where
   both-at zero d r (more q h) = q
   both-at (suc i) d r (more q h) = both-at i d r h
 
+-- eight pixels related by their place
+eight-at : (R : ℕ → ℕ → ℕ → Type 0) (f g : ℕ → ℕ) → ((j : ℕ) → R j 0 0) → ((j : ℕ) → R j (f j) (g j)) → (j : ℕ) → R j (getD (eight f) j 0) (getD (eight g) j 0)
+eight-at R f g z h zero = h 0
+eight-at R f g z h (suc zero) = h 1
+eight-at R f g z h (suc (suc zero)) = h 2
+eight-at R f g z h (suc (suc (suc zero))) = h 3
+eight-at R f g z h (suc (suc (suc (suc zero)))) = h 4
+eight-at R f g z h (suc (suc (suc (suc (suc zero))))) = h 5
+eight-at R f g z h (suc (suc (suc (suc (suc (suc zero)))))) = h 6
+eight-at R f g z h (suc (suc (suc (suc (suc (suc (suc zero))))))) = h 7
+eight-at R f g z h (suc (suc (suc (suc (suc (suc (suc (suc j)))))))) = z _
+
 -- ---- plans related: the same but for what plane k's bits may tell
 
 pub data AlikeDeed (k : ℕ) : Deed → Deed → Type 0 where
@@ -81,7 +96,7 @@ pub record AlikePlan (k : ℕ) (a b : Plan) : Type 0 where
   pub deed : AlikeDeed k (a .deed) (b .deed)
   pub reply : AlikeReply k (a .reply) (b .reply)
 
--- a reply that tells nothing of plane k, but for its bit of pixels and its number of a store: it does not answer from it, nor compare over it
+-- a reply that tells nothing of plane k, but for its bit of pixels, its number of a store and its pixels of a show: it does not answer from it, nor compare over it
 unfoldable pub Silent : ℕ → Reply → Type 0
 Silent k (known v) = Unit {0}
 Silent k (byteAt p o) = p ≢ k
@@ -89,6 +104,7 @@ Silent k (compare care colour) = bit k care ≡ 0
 Silent k (pixelAt j) = Unit {0}
 Silent k (pixelsAt j) = Unit {0}
 Silent k (changesAt o) = Unit {0}
+Silent k (shownAt d o) = Unit {0}
 
 module _ (k : ℕ) where
   agree-self : (x : ℕ) → Agree k x x
@@ -211,6 +227,18 @@ module _ (k : ℕ) where
       unfolding changedAt
       changed-same b d h o p ne = ap₂ changedBits (byte-same b d h p o ne) (byte-same m n a p o ne)
 
+      -- the pixels of a show: those of the picture but for bit k, those of planes but for plane k's
+      picture-shown : (o : ℕ) → Both (Agree k) (shownIn Standard m o) (shownIn Standard n o)
+      unfolding shownIn
+      picture-shown o = both-take 8 (both-drop (8 * o) (a .pictures))
+
+      shown-alike : (d : ShiftMode) (o : ℕ) → AlikeShow k d (shownIn d m o) (shownIn d n o)
+      unfolding shownIn AlikePixel cgaPixel chain4Pixel
+      shown-alike Standard o = record { long = both-length (picture-shown o); at = λ j. both-at j 0 (agree-self 0) (picture-shown o) }
+      shown-alike CGACompatible o = record { long = refl; at = eight-at (AlikePixel k CGACompatible) _ _ (λ j ne. refl) λ j ne. ap (pair j) (byte-same m n a (j / 4) (o + j / 4) ne) }
+      shown-alike Chain4 o = record { long = refl; at = eight-at (AlikePixel k Chain4) _ _ (λ j ne. refl) λ j ne. ap (nibble j) (byte-same m n a (j / 2) o ne) }
+      shown-alike Unused o = record { long = both-length (picture-shown o); at = λ j. both-at j 0 (agree-self 0) (picture-shown o) }
+
       value-same : {q r : Reply} → AlikeReply k q r → Silent k q → (b d : Memory) → AlikeMemory k b d → AlikeValue k (valueOf q b l m) (valueOf r d u n)
       unfolding valueOf Silent
       value-same (replies {r}) h b d e = go r h
@@ -222,6 +250,7 @@ module _ (k : ℕ) where
           go (pixelAt j) h = pixels (both-at j 0 (agree-self 0) (a .pictures))
           go (pixelsAt j) h = parts (both-take 8 (both-drop j (a .pictures)))
           go (changesAt o) h = numbers (changed-same b d e o)
+          go (shownAt d o) h = shows (shown-alike d o)
 
       -- a refusal's value does not depend on what was read
       blank-same : {q r : Reply} → AlikeReply k q r → (b d : Memory) → blank (valueOf q b l m) ≡ blank (valueOf r d u n)
@@ -235,6 +264,7 @@ module _ (k : ℕ) where
           go (pixelAt j) = refl
           go (pixelsAt j) = refl
           go (changesAt o) = refl
+          go (shownAt d o) = refl
 
   -- ---- one plan, two answers
 
@@ -389,6 +419,7 @@ module _ (k : ℕ) where
   cpu-silent r s h (cpuPeek x page) n w p = p
   cpu-silent r s h (cpuWrite x page v) n w p = tt
   cpu-silent r s h (serialize o) n w p = tt
+  cpu-silent r s h (showPixels o) n w p = tt
 
   permitted : (s : State) (c : Call) → Obeys k s c → Permitted s c
   unfolding Permitted NotFrom ComparesWithout NoPeek step vramStep directStep cpuStep perform

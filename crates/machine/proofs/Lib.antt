@@ -24,4 +24,6 @@ pub mod RegisterRules
 pub mod DirectRules
 pub mod ChainFour
 pub mod AccessRules
+pub mod Shows
+pub mod ShowRules
 pub mod Window128K

@@ -14,10 +14,10 @@ use Rattle.machine_types.specs.declared.gc.ReadMode.the-variants.{ReadSelectedP
 use Rattle.machine.specs.Memory.{shape}
 use Rattle.machine.specs.Graphics.{readMode}
 use Rattle.machine.specs.Address.{offset}
-use Rattle.machine.specs.Deeds.{Reply, known, byteAt, compare, pixelAt, pixelsAt, changesAt}
+use Rattle.machine.specs.Deeds.{Reply, known, byteAt, compare, pixelAt, pixelsAt, changesAt, shownAt}
 use Rattle.machine.specs.Calls.{VramCall, readU8, peekU8, readGlyph, readLinear, serializeLinear, writeU8, planeSet, planeAnd, planeOr, deplane, vramPlan}
 use Rattle.machine.specs.Calls.{DirectCall, seqCpuReadU8, seqPeekU8, seqGcReadU8, seqReadLinear, seqSerializeLinear, seqPlaneSet, seqPlaneAnd, seqPlaneOr, directPlan}
-use Rattle.machine.specs.Calls.{CpuCall, cpuRead, cpuPeek, cpuWrite, serialize, cpuPlan, readReply, seqValue, gcValue}
+use Rattle.machine.specs.Calls.{CpuCall, cpuRead, cpuPeek, cpuWrite, serialize, showPixels, cpuPlan, readReply, seqValue, gcValue}
 use Rattle.machine.specs.Step.{State, Call, vram, sequencer, direct, graphics, cpu, step}
 use Rattle.machine.specs.Isolation.{accepted, vramNotFrom, directNotFrom, selectedNotFrom, cpuNotFrom, NotFrom, comparedWithout, cpuWithout, ComparesWithout, cpuNoPeek, NoPeek, Obeys, Along}
 use Rattle.machine.specs.Isolation.{Asked, asksReadU8, asksPeekU8, asksReadGlyph, asksSeqCpuReadU8, asksSeqPeekU8, asksSeqGcReadU8, asksSelected, asksCompared, asksPeek}
@@ -74,6 +74,7 @@ module _ (k : ℕ) (s : State) where
   cpu-asks (cpuPeek x page) n = record { reads = λ a. tt; compares = λ a. tt; peeks = λ a e. n (asksPeek e a) }
   cpu-asks (cpuWrite x page v) n = record { reads = λ a. tt; compares = λ a. tt; peeks = λ a. tt }
   cpu-asks (serialize o) n = record { reads = λ a. tt; compares = λ a. tt; peeks = λ a. tt }
+  cpu-asks (showPixels o) n = record { reads = λ a. tt; compares = λ a. tt; peeks = λ a. tt }
 
 -- a call that asks nothing of plane k keeps the premise
 pub asks-nothing-else : (k : ℕ) (s : State) (c : Call) → (Asked k s c → ⊥) → Obeys k s c
@@ -129,6 +130,7 @@ isSilent k (compare care colour) = eqb (bit k care) 0
 isSilent k (pixelAt j) = true
 isSilent k (pixelsAt j) = true
 isSilent k (changesAt o) = true
+isSilent k (shownAt d o) = true
 
 silent-told : (k : ℕ) (r : Reply) → isSilent k r ≡ true → Silent k r
 unfolding isSilent Silent
@@ -138,6 +140,7 @@ silent-told k (compare care colour) e = eqb-true (bit k care) 0 e
 silent-told k (pixelAt j) e = tt
 silent-told k (pixelsAt j) e = tt
 silent-told k (changesAt o) e = tt
+silent-told k (shownAt d o) e = tt
 
 -- whether no reply of a run tells of plane k: each call is refused, or its reply is silent
 unfoldable pub quiet : ℕ → State → List Call → Bool

@@ -25,7 +25,7 @@ use Rattle.machine.specs.Calls.{SequencerCall, seqReset, seqClock, seqSe
 use Rattle.machine.specs.Calls.{DirectCall, seqCpuReadU8, seqPeekU8, seqGcReadU8, seqReadLinear, seqSerializeLinear, seqPlaneSet, seqPlaneAnd, seqPlaneOr}
 use Rattle.machine.specs.Calls.{GraphicsCall, gcReset, gcChain, gcChain4, gcMemoryMap, gcOddEven, gcShiftMode, gcReadAddress, gcReadData, gcWriteAddress, gcWriteData, gcMapAddress}
 use Rattle.machine.specs.Calls.{gcNumberOf, gcNext}
-use Rattle.machine.specs.Calls.{CpuCall, cpuRead, cpuPeek, cpuWrite, serialize, cpuPlan}
+use Rattle.machine.specs.Calls.{CpuCall, cpuRead, cpuPeek, cpuWrite, serialize, showPixels, cpuPlan}
 use Rattle.machine.specs.Step.{sequencerStep, graphicsStep, Device, cpuStep, State, Call, vram, sequencer, direct, graphics, cpu, step, run}
 use Rattle.machine.specs.Claims.{Check, RightGc, RightSeq, vramChecks, sequencerChecks, directChecks, graphicsChecks, cpuChecks, checks, Given, done, here, later, RightRecords, atStart}
 use Rattle.machine.proofs.Laws.{both}
@@ -213,6 +213,7 @@ cpu-passed r s h m (cpuRead x page) = met h refl
 cpu-passed r s h m (cpuPeek x page) = met h refl
 cpu-passed r s h m (cpuWrite x page v) = met h refl
 cpu-passed r s h m (serialize o) = met h refl
+cpu-passed r s h m (showPixels o) = met h refl
 
 checks-passed : (s : State) (c : Call) → RightRecords s → Passed (checks s c)
 unfolding checks

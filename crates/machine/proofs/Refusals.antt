@@ -1,5 +1,5 @@
 -- Refusals: each is given exactly when its condition holds and no earlier one does; it leaves everything as handed in, but for K8's counter of accesses turned away, and carries value 0.
-use Prim.Native.Nat.{ℕ, zero, suc, _<_, _≤_}
+use Prim.Native.Nat.{ℕ, zero, suc, _+_, _<_, _≤_}
 use native.Mathlib.Omega.{arith}
 use mathlib.Core.Logic.{_≢_, _↔_}
 use mathlib.Core.Path.{_≡_, refl, sym, ap, _∙_, subst}
@@ -18,17 +18,17 @@ use Rattle.machine_types.specs.declared.seq.Sequencer.{Sequencer}
 use Rattle.machine_types.specs.declared.shape.Shape.{Shape}
 use Rattle.bits.specs.Bit.{pick}
 use Rattle.machine.specs.Memory.{Memory, shape, sound, Shaped}
-use Rattle.machine.specs.Answers.{Value, one, two, pixel, part, changes, blank, Outcome, answered}
+use Rattle.machine.specs.Answers.{Value, one, two, pixel, part, changes, shown, blank, Outcome, answered}
 use Rattle.machine.specs.Graphics.{fitsGc, shiftMode, memoryMap, gcOf}
 use Rattle.machine.specs.Sequencer.{fitsSeq}
 use Rattle.machine.specs.Address.{inWindow, offset}
 use Rattle.machine.specs.Deeds.{perform, valueOf}
-use Rattle.machine.specs.Calls.{refuse, shows, offsetNumber, planeNumber, placeNumber, shownNumber, accessNumber, showNumber}
+use Rattle.machine.specs.Calls.{refuse, shows, offsetNumber, planeNumber, placeNumber, shownNumber, accessNumber, showNumber, lastShown, pixelsNumber}
 use Rattle.machine.specs.Calls.{VramCall, readU8, peekU8, readGlyph, readLinear, serializeLinear, writeU8, planeSet, planeAnd, planeOr, deplane, vramPlan}
 use Rattle.machine.specs.Calls.{SequencerCall, seqReset, seqClock, seqSetClockChangePending, seqPollClockChange, seqReadAddress, seqReadData, seqWriteAddress, seqWriteData, seqNumberOf}
 use Rattle.machine.specs.Calls.{DirectCall, seqCpuReadU8, seqPeekU8, seqGcReadU8, seqReadLinear, seqSerializeLinear, seqPlaneSet, seqPlaneAnd, seqPlaneOr, directPlan}
 use Rattle.machine.specs.Calls.{GraphicsCall, gcReset, gcChain, gcChain4, gcMemoryMap, gcOddEven, gcShiftMode, gcReadAddress, gcReadData, gcWriteAddress, gcWriteData, gcMapAddress, gcNumberOf}
-use Rattle.machine.specs.Calls.{CpuCall, cpuRead, cpuPeek, cpuWrite, serialize, cpuPlan, refusedCounter, noCounter, isCounted, refusalCounter, counted}
+use Rattle.machine.specs.Calls.{CpuCall, cpuRead, cpuPeek, cpuWrite, serialize, showPixels, cpuPlan, refusedCounter, noCounter, isCounted, refusalCounter, counted}
 use Rattle.machine.specs.Step.{vramStep, sequencerStep, directStep, graphicsStep, device, cpuAfter, cpuRefused, cpuStep, State, Call, vram, sequencer, direct, graphics, cpu, lifted}
 use Rattle.machine.specs.Step.{withMemory, withSeq, withGc, withDevice, step}
 use Rattle.machine.specs.Claims.{Check, check, RightGc, RightSeq, InWindow, forBoth, forMemory, forPlane, forWindow, forOffset, forShown, forPlace, vramChecks}
@@ -108,6 +108,13 @@ shift-told CGACompatible = fails λ h. h .1 refl
 shift-told Chain4 = fails λ h. h .0 refl
 shift-told Unused = holds (λ e. never (cc), λ e. never (cc))
 
+-- the offset, and in CGACompatible the next one: as facts, and as the last of them
+pixels-told : (d : ShiftMode) (o n : ℕ) → Tells ((o < n) × (d ≡ CGACompatible → o + 1 < n)) (ltb (lastShown d o) n)
+pixels-told Standard o n = tells-as (λ h. (h, λ e. absurd (never (cc)))) (λ h. h .0) (tells-lt o n)
+pixels-told CGACompatible o n = tells-as (λ h. (omega arith, λ e. h)) (λ h. h .1 refl) (tells-lt (o + 1) n)
+pixels-told Chain4 o n = tells-as (λ h. (h, λ e. absurd (never (cc)))) (λ h. h .0) (tells-lt o n)
+pixels-told Unused o n = tells-as (λ h. (h, λ e. absurd (never (cc)))) (λ h. h .0) (tells-lt o n)
+
 -- ---- checks in their turn
 
 then : {P : Type 0} {cs : List Check} {b : Bool} (r : ℕ) {n : ℕ} → Tells P b → Given cs n → Given (check r P ∷ cs) (refuse b r n)
@@ -171,12 +178,14 @@ module _ (m : Memory) where
           (then 1 (memory-told m) (then 2 (window-told (memoryMap r) x) (then 3 (tells-lt (offset r x page) _) (done refl))))
 
       cpu-given : (c : CpuCall) → Given (cpuChecks r s m c) (cpuPlan r s (shape m) c .ask .number)
-      unfolding cpuChecks cpuPlan showNumber
+      unfolding cpuChecks cpuPlan showNumber pixelsNumber
       cpu-given (cpuRead x page) = access-given x page
       cpu-given (cpuPeek x page) = access-given x page
       cpu-given (cpuWrite x page v) = access-given x page
       cpu-given (serialize o) =
           then 6 (tells-both (gc-told r) (seq-told s)) (then 1 (memory-told m) (then 9 (shift-told (shiftMode r)) (then 5 (tells-lt o _) (done refl))))
+      cpu-given (showPixels o) =
+          then 6 (tells-both (gc-told r) (seq-told s)) (then 1 (memory-told m) (then 5 (pixels-told (shiftMode r) o _) (done refl)))
 
 sequencer-given : (s : Sequencer) (c : SequencerCall) → Given (sequencerChecks s c) (seqNumberOf s c)
 unfolding sequencerChecks seqNumberOf
@@ -272,6 +281,7 @@ cpu-ordered r s m (cpuRead x page) = refl
 cpu-ordered r s m (cpuPeek x page) = refl
 cpu-ordered r s m (cpuWrite x page v) = refl
 cpu-ordered r s m (serialize o) = refl
+cpu-ordered r s m (showPixels o) = refl
 
 -- .. and those stand in the order 6, 1, 9, 4, 2, 3, 5
 pub refused-in-order : (s : State) (c : Call) → inOrder order (checks s c) ≡ true
@@ -293,6 +303,7 @@ blank-blank (two x y) = refl
 blank-blank (pixel x) = refl
 blank-blank (part l) = refl
 blank-blank (changes a b c d) = refl
+blank-blank (shown d l) = refl
 
 answered-stays : {S : Type 0} (n : ℕ) (v : Value) (new old : S) → answered n v new old .answer .number ≢ 0 → Stays (answered n v new old) old
 answered-stays zero v new old ne = absurd (ne refl)
@@ -327,6 +338,7 @@ module _ (g : GraphicsController) (r : GraphicsRegisters) (s : Sequencer) (h : S
   controller-left (cpuPeek x page) = rw (none-raised n)
   controller-left (cpuWrite x page v) = turned (isCounted n)
   controller-left (serialize o) = rw (none-raised n)
+  controller-left (showPixels o) = rw (none-raised n)
 
 cpu-stays : (g : GraphicsController) (s : Sequencer) (m : Memory) (c : CpuCall) → cpuStep g s m c .answer .number ≢ 0
     → Stays (cpuStep g s m c) (device (pick (turnsAway c (cpuStep g s m c .answer .number)) (oneMoreRefused g) g) m)
@@ -360,7 +372,7 @@ refused-stays s (cpu c) ne =
 left-by : (s : State) (c : Call) (n : ℕ) → step s c .answer .number ≡ suc n → step s c .next ≡ afterRefusal s c (suc n)
 left-by s c n e = refused-stays s c (λ z. let y : _≡_ {A = ℕ} 0 (suc n) = sym z ∙ e in omega arith) .next ∙ ap (afterRefusal s c) e
 
--- whatever the number: the four other layers, a peek and a show
+-- whatever the number: the four other layers, a peek and the shows
 module _ (s : State) (n : ℕ) where
   vram-left : (c : VramCall) → step s (vram c) .answer .number ≡ suc n → step s (vram c) .next ≡ s
   unfolding afterRefusal
@@ -385,6 +397,10 @@ module _ (s : State) (n : ℕ) where
   show-left : (o : ℕ) → step s (cpu (serialize o)) .answer .number ≡ suc n → step s (cpu (serialize o)) .next ≡ s
   unfolding afterRefusal
   show-left o = left-by s (cpu (serialize o)) n
+
+  pixels-left : (o : ℕ) → step s (cpu (showPixels o)) .answer .number ≡ suc n → step s (cpu (showPixels o)) .next ≡ s
+  unfolding afterRefusal
+  pixels-left o = left-by s (cpu (showPixels o)) n
 
 -- a read and a write, by the number
 module _ (s : State) (x : ℕ) (page : Bool) (v : ℕ) where

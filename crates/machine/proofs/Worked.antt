@@ -4,7 +4,8 @@ use mathlib.Core.Bool.{false}
 use mathlib.Core.List.{List, [], _∷_, _++_, map}
 use lib.ListN.{replicate, set, take}
 use Rattle.machine.specs.Memory.{Memory, mem}
-use Rattle.machine.specs.Answers.{Value, one, two, pixel, part, changes, Said, said}
+use Rattle.machine.specs.Answers.{Value, one, two, pixel, part, changes, shown, Said, said}
+use Rattle.machine_types.specs.declared.gc.ShiftMode.{ShiftMode}
 use Rattle.machine_types.specs.Start.{freshGc, freshSeq}
 use Rattle.machine.specs.Calls.{writeU8, seqWriteAddress, seqWriteData, gcWriteAddress, gcWriteData, gcMapAddress, cpuWrite}
 use Rattle.machine.specs.Step.{State, state, Call, vram, sequencer, graphics, cpu}
@@ -28,8 +29,9 @@ told a = a .number ∷ values (a .value)
     values (pixel x) = x ∷ []
     values (part l) = l
     values (changes a b c d) = a ∷ b ∷ c ∷ d ∷ []
+    values (shown d l) = l
 
--- an accepted answer: a number, a pixel, a show's pixels, a store's four numbers
+-- an accepted answer: a number, a pixel, an older show's pixels, a store's four numbers, a show's pixels by its shift mode
 abbrev pub aNumber : ℕ → Said
 aNumber x = said 0 (one x)
 
@@ -41,6 +43,9 @@ aShow l = said 0 (part l)
 
 abbrev pub aStore : ℕ → ℕ → ℕ → ℕ → Said
 aStore a b c d = said 0 (changes a b c d)
+
+abbrev pub pixelsIn : ShiftMode → List ℕ → Said
+pixelsIn d l = said 0 (shown d l)
 
 -- four numbers, one for each plane: n of plane p, 0 of the others
 abbrev pub inPlane : ℕ → ℕ → List ℕ

@@ -1,6 +1,6 @@
 -- What a call answers, in the document's numbers: 0 or a refusal, a value, and what is left.
 use Prim.Native.Nat.{ℕ, zero, suc}
-use mathlib.Core.List.{List, []}
+use mathlib.Core.List.{List, [], _∷_}
 use Rattle.bits.specs.Bit.{bitOf}
 use Rattle.machine_types.specs.declared.answer.Refusal.{Refusal}
 use Rattle.machine_types.specs.declared.answer.Refusal.the-variants.{Memory, Window, Offset, Plane, Place, State, Damaged, Range, Shift, Room}
@@ -23,6 +23,7 @@ use Rattle.machine_types.specs.declared.answer.ShiftAnswer.{ShiftAnswer}
 use Rattle.machine_types.specs.declared.answer.ShiftAnswer.the-variants.{Done as ShiftDone, Refused as ShiftRefused}
 use Rattle.machine_types.specs.declared.answer.MappedAnswer.{MappedAnswer}
 use Rattle.machine_types.specs.declared.answer.MappedAnswer.the-variants.{Done as MappedDone, Refused as MappedRefused}
+use Rattle.machine_types.specs.declared.answer.ShownPixels.{ShownPixels}
 use Rattle.machine_types.specs.declared.gc.MemoryMap.{MemoryMap}
 use Rattle.machine_types.specs.declared.gc.MemoryMap.the-variants.{«A0000_128k», «A0000_64K», «B0000_32K», «B8000_32K»}
 use Rattle.machine_types.specs.declared.gc.OddEvenModeComplement.{OddEvenModeComplement}
@@ -53,22 +54,29 @@ pub data Value : Type 0 where
   two : ℕ → ℕ → Value
   -- a pixel's byte
   pixel : ℕ → Value
-  -- a show: a part of the picture
+  -- an older show: a part of the picture
   part : List ℕ → Value
   -- K6, a store: how many bits of each plane's byte changed, plane 0 first
   changes : ℕ → ℕ → ℕ → ℕ → Value
+  -- K3, a show: the shift mode that it was made in, and its eight pixels
+  shown : ShiftMode → List ℕ → Value
+
+-- eight pixels, all 0
+abbrev pub noPixels : List ℕ
+noPixels = 0 ∷ 0 ∷ 0 ∷ 0 ∷ 0 ∷ 0 ∷ 0 ∷ 0 ∷ []
 
 -- the four numbers of a store, by plane
 abbrev pub changesOf : (ℕ → ℕ) → Value
 changesOf f = changes (f 0) (f 1) (f 2) (f 3)
 
--- a refusal carries value 0 (`map_address`: both numbers 0; a show: an empty part; a store: four times 0)
+-- a refusal carries value 0 (`map_address`: both numbers 0; an older show: an empty part; a store: four times 0; a show: eight times 0)
 abbrev pub blank : Value → Value
 blank (one x) = one 0
 blank (two x y) = two 0 0
 blank (pixel x) = pixel 0
 blank (part l) = part []
 blank (changes a b c d) = changes 0 0 0 0
+blank (shown d l) = shown d noPixels
 
 -- the pixels that a show hands back; no other value has any
 abbrev pub pixelsOf : Value → List ℕ
@@ -77,6 +85,7 @@ pixelsOf (two x y) = []
 pixelsOf (pixel x) = []
 pixelsOf (part l) = l
 pixelsOf (changes a b c d) = []
+pixelsOf (shown d l) = l
 
 -- an answer: 0 or a refusal's number, and its value
 pub record Said : Type 0 where
@@ -176,6 +185,10 @@ abbrev pub mappedSaid : MappedAnswer → Said
 mappedSaid (MappedDone o a0) = said 0 (two (o .0) (bitOf a0))
 mappedSaid (MappedRefused r) = said (refusalNumber r) (two 0 0)
 
--- a show's number and the part handed back
+-- an older show's number and the part handed back
 abbrev pub partSaid : ℕ → List ℕ → Said
 partSaid n l = said n (part l)
+
+-- a show of a shift mode: its answer's number and the pixels beside it
+abbrev pub shownSaid : ShiftMode → ShownPixels → Said
+shownSaid d x = said (doneSaid (x .answer) .number) (shown d (x .pixels))

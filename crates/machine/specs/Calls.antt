@@ -21,7 +21,7 @@ use Rattle.machine_types.specs.Start.{freshGc, freshSeq}
 use Rattle.machine.specs.Sequencer.{withSeqAddress, withSeqData, seqDataOf, withMark, fitsSeq, inMask, storedAt, gcReadAt}
 use Rattle.machine.specs.Address.{inWindow, a0, offset}
 use Rattle.machine.specs.DataPath.{writtenBit, visits, selectedPlane, peekedPlane}
-use Rattle.machine.specs.Deeds.{Deed, rest, load, store, remake, Reply, known, byteAt, compare, pixelAt, pixelsAt, changesAt, Plan, plan}
+use Rattle.machine.specs.Deeds.{Deed, rest, load, store, remake, Reply, known, byteAt, compare, pixelAt, pixelsAt, changesAt, shownAt, Plan, plan}
 
 -- ---- refusals
 
@@ -50,7 +50,7 @@ placeNumber h j = refuse (sound h) 1 (refuse (ltb j (8 * size h)) 5 0)
 abbrev pub checkShown : Shape → ℕ → ℕ
 checkShown h o = refuse (ltb o (size h)) 5 0
 
--- 1, 5, of a show
+-- 1, 5, of an older show
 unfoldable pub shownNumber : Shape → ℕ → ℕ
 shownNumber h o = refuse (sound h) 1 (checkShown h o)
 
@@ -228,7 +228,7 @@ gcNext g (gcWriteAddress x) = gcOf (withAddress x (g .registers)) (g .stats) (g 
 gcNext g (gcWriteData x) = gcOf (withData x (g .registers)) (g .stats) (g .latches)
 gcNext g (gcMapAddress x page) = g
 
--- ---- calls on both records and memory: the processor's accesses, and the show
+-- ---- calls on both records and memory: the processor's accesses, and the shows
 
 -- the calls of the third table that are handed memory
 pub data CpuCall : Type 0 where
@@ -236,8 +236,8 @@ pub data CpuCall : Type 0 where
   cpuRead cpuPeek : ℕ → Bool → CpuCall
   -- address, page, byte
   cpuWrite : ℕ → Bool → ℕ → CpuCall
-  -- offset
-  serialize : ℕ → CpuCall
+  -- offset; K3: the second serves every shift mode
+  serialize showPixels : ℕ → CpuCall
 
 -- 6 looks at the whole of each record handed in
 abbrev pub fitsBoth : GraphicsRegisters → Sequencer → Bool
@@ -248,7 +248,7 @@ unfoldable pub accessNumber : GraphicsRegisters → Sequencer → Shape → ℕ 
 accessNumber r s h x page =
     refuse (fitsBoth r s) 6 (refuse (sound h) 1 (refuse (inWindow (memoryMap r) x) 2 (checkOffset h (offset r x page))))
 
--- 9: a show while the shift mode is Chain4 or CGACompatible
+-- 9: the older show while the shift mode is Chain4 or CGACompatible
 abbrev pub shows : ShiftMode → Bool
 shows Standard = true
 shows CGACompatible = false
@@ -258,6 +258,17 @@ shows Unused = true
 -- 6, 1, 9, 5
 unfoldable pub showNumber : GraphicsRegisters → Sequencer → Shape → ℕ → ℕ
 showNumber r s h o = refuse (fitsBoth r s) 6 (refuse (sound h) 1 (refuse (shows (shiftMode r)) 9 (checkShown h o)))
+
+-- K3: the last offset that a show looks at: in CGACompatible the next one
+abbrev pub lastShown : ShiftMode → ℕ → ℕ
+lastShown Standard o = o
+lastShown CGACompatible o = o + 1
+lastShown Chain4 o = o
+lastShown Unused o = o
+
+-- 6, 1, 5
+unfoldable pub pixelsNumber : GraphicsRegisters → Sequencer → Shape → ℕ → ℕ
+pixelsNumber r s h o = refuse (fitsBoth r s) 6 (refuse (sound h) 1 (checkShown h (lastShown (shiftMode r) o)))
 
 -- a plan, the counter that the call raises where it is accepted, and the one that it raises where it is refused with 2 or 3
 pub record CpuPlan : Type 0 where
@@ -330,3 +341,4 @@ cpuPlan r s h (cpuPeek x page) = cpuPlanOf (plan (accessNumber r s h x page) res
 cpuPlan r s h (cpuWrite x page v) =
     cpuPlanOf (plan (accessNumber r s h x page) (writeDeed (writeMode r) r s x (offset r x page) v) (changesAt (storedAt s (offset r x page)))) (writeCounter (writeMode r)) refusedCounter
 cpuPlan r s h (serialize o) = cpuPlanOf (plan (showNumber r s h o) rest (pixelsAt (8 * o))) noCounter noCounter
+cpuPlan r s h (showPixels o) = cpuPlanOf (plan (pixelsNumber r s h o) rest (shownAt (shiftMode r) o)) noCounter noCounter

@@ -24,7 +24,7 @@ use Rattle.machine.specs.Calls.{VramCall, readU8, peekU8, readGlyph, rea
 use Rattle.machine.specs.Calls.{SequencerCall, seqReset, seqClock, seqSetClockChangePending, seqPollClockChange, seqReadAddress, seqReadData, seqWriteAddress, seqWriteData}
 use Rattle.machine.specs.Calls.{DirectCall, seqCpuReadU8, seqPeekU8, seqGcReadU8, seqReadLinear, seqSerializeLinear, seqPlaneSet, seqPlaneAnd, seqPlaneOr, directPlan}
 use Rattle.machine.specs.Calls.{GraphicsCall, gcReset, gcChain, gcChain4, gcMemoryMap, gcOddEven, gcShiftMode, gcReadAddress, gcReadData, gcWriteAddress, gcWriteData, gcMapAddress}
-use Rattle.machine.specs.Calls.{CpuCall, cpuRead, cpuPeek, cpuWrite, serialize, cpuPlan}
+use Rattle.machine.specs.Calls.{CpuCall, cpuRead, cpuPeek, cpuWrite, serialize, showPixels, cpuPlan}
 use Rattle.machine.specs.Step.{State, state, Call, vram, sequencer, direct, graphics, cpu, withGc, step}
 
 -- ---- `refused-exactly`: what each call looks for, and in which order
@@ -78,7 +78,7 @@ forBoth r s = check 6 (RightGc r × RightSeq s)
 abbrev pub forMemory : Memory → Check
 forMemory m = check 1 (Shaped m)
 
--- 9: a show while the shift mode is Chain4 or CGACompatible
+-- 9: the older show while the shift mode is Chain4 or CGACompatible
 abbrev pub forShift : GraphicsRegisters → Check
 forShift r = check 9 ((shiftMode r ≢ Chain4) × (shiftMode r ≢ CGACompatible))
 
@@ -97,6 +97,10 @@ forOffset m o = check 3 (o < length (m .p0))
 -- 5: a shown offset is n or more, or a pixel place is 8n or more
 abbrev pub forShown : Memory → ℕ → Check
 forShown m o = check 5 (o < length (m .p0))
+
+-- 5, of K3's show: "a CGA show whose next offset is n or more" too
+abbrev pub forPixels : GraphicsRegisters → Memory → ℕ → Check
+forPixels r m o = check 5 ((o < length (m .p0)) × (shiftMode r ≡ CGACompatible → o + 1 < length (m .p0)))
 
 -- 5, of a pixel place
 abbrev pub forPlace : Memory → ℕ → Check
@@ -157,6 +161,7 @@ cpuChecks r s m (cpuRead x page) = forBoth r s ∷ forMemory m ∷ forWindow r x
 cpuChecks r s m (cpuPeek x page) = forBoth r s ∷ forMemory m ∷ forWindow r x ∷ forOffset m (offset r x page) ∷ []
 cpuChecks r s m (cpuWrite x page v) = forBoth r s ∷ forMemory m ∷ forWindow r x ∷ forOffset m (offset r x page) ∷ []
 cpuChecks r s m (serialize o) = forBoth r s ∷ forMemory m ∷ forShift r ∷ forShown m o ∷ []
+cpuChecks r s m (showPixels o) = forBoth r s ∷ forMemory m ∷ forPixels r m o ∷ []
 
 -- the refusals that a call looks for, in its order
 unfoldable pub checks : State → Call → List Check
@@ -190,6 +195,7 @@ turnsAway (cpuRead x page) n = eqb n 2 || eqb n 3
 turnsAway (cpuPeek x page) n = false
 turnsAway (cpuWrite x page v) n = eqb n 2 || eqb n 3
 turnsAway (serialize o) n = false
+turnsAway (showPixels o) n = false
 
 -- the record with its seventh counter raised by one, back to 0 after 4,294,967,295, and all else as it was
 abbrev pub oneMoreRefused : GraphicsController → GraphicsController
@@ -247,6 +253,7 @@ accesses (cpuRead x page) = 1
 accesses (cpuPeek x page) = 0
 accesses (cpuWrite x page v) = 1
 accesses (serialize o) = 0
+accesses (showPixels o) = 0
 
 -- a reset begins to count anew
 abbrev pub sinceReset : ℕ → GraphicsCall → ℕ
@@ -323,6 +330,7 @@ cpuStores (cpuRead x page) = false
 cpuStores (cpuPeek x page) = false
 cpuStores (cpuWrite x page v) = true
 cpuStores (serialize o) = false
+cpuStores (showPixels o) = false
 
 -- the eight calls that answer how much changed
 abbrev pub isStore : Call → Bool

@@ -1,13 +1,15 @@
 -- What a call may ask of latches and memory, and what they make of it: the only definitions that see a latch, a plane's byte or a pixel.
-use Prim.Native.Nat.{ℕ, _*_, _-_}
+use Prim.Native.Nat.{ℕ, _+_, _*_, _-_, _/_, _%_}
 use mathlib.Core.Bool.{Bool, true, _||_}
 use mathlib.Core.List.{List, [], _∷_}
 use lib.Dec.{eqb}
 use lib.ListN.{getD, set, take, drop}
 use lib.Seq.{sets}
-use Rattle.bits.specs.Bit.{bit, ofBits, sumOf, byteOf, isOne, bitOf, pick, every}
+use Rattle.bits.specs.Bit.{bit, field, ofBits, sumOf, byteOf, isOne, bitOf, pick, every}
+use Rattle.machine_types.specs.declared.gc.ShiftMode.{ShiftMode}
+use Rattle.machine_types.specs.declared.gc.ShiftMode.the-variants.{Standard, CGACompatible, Chain4, Unused}
 use Rattle.machine.specs.Memory.{Memory, mem, plane, planes}
-use Rattle.machine.specs.Answers.{Value, one, pixel, part, changesOf, Outcome, answered}
+use Rattle.machine.specs.Answers.{Value, one, pixel, part, changesOf, shown, Outcome, answered}
 
 -- what a call may do to latches and memory
 pub data Deed : Type 0 where
@@ -34,6 +36,8 @@ pub data Reply : Type 0 where
   pixelsAt : ℕ → Reply
   -- K6: how many bits of each plane's byte at an offset the deed changed
   changesAt : ℕ → Reply
+  -- K3: the eight pixels of an offset by a shift mode
+  shownAt : ShiftMode → ℕ → Reply
 
 -- a call's plan: 0 or its refusal, its deed, its reply. No plan is made from a latch, a plane's byte or a pixel
 pub record Plan : Type 0 where
@@ -109,6 +113,31 @@ changedBits old new = sumOf 8 (changedBit old new)
 unfoldable pub changedAt : Memory → Memory → ℕ → ℕ → ℕ
 changedAt was m o p = changedBits (byte was p o) (byte m p o)
 
+-- ---- K3: the eight pixels of a show, by the shift mode
+
+-- `Chain4`, pixel j: of the byte of plane j / 2, the high four bits where j is even, the low four where it is odd
+unfoldable pub nibble : ℕ → ℕ → ℕ
+nibble j x = field (4 - 4 * (j % 2)) 4 x
+
+-- `CGACompatible`, pixel j: two bits of a byte, leftmost first; four pixels a byte
+unfoldable pub pair : ℕ → ℕ → ℕ
+pair j x = field (6 - 2 * (j % 4)) 2 x
+
+-- "pixels 2i and 2i + 1 are the high and low four bits of plane i at the offset"
+unfoldable pub chain4Pixel : Memory → ℕ → ℕ → ℕ
+chain4Pixel m o j = nibble j (byte m (j / 2) o)
+
+-- "four two-bit pixels, leftmost first, from plane 0 at the offset, then four from plane 1 at the next offset"
+unfoldable pub cgaPixel : Memory → ℕ → ℕ → ℕ
+cgaPixel m o j = pair j (byte m (j / 4) (o + j / 4))
+
+-- "the standard ones from the picture", as it stands; the other two from planes, at the offset as it stands
+unfoldable pub shownIn : ShiftMode → Memory → ℕ → List ℕ
+shownIn Standard m o = take 8 (drop (8 * o) (m .picture))
+shownIn CGACompatible m o = eight (cgaPixel m o)
+shownIn Chain4 m o = eight (chain4Pixel m o)
+shownIn Unused m o = take 8 (drop (8 * o) (m .picture))
+
 -- ---- a deed done, a reply given
 
 -- an accepted read loads the latches; nothing else moves them
@@ -125,7 +154,7 @@ memoryAfter (load o) l m = m
 memoryAfter (store o w f) l m = stored o w (storedByte o f l m) m
 memoryAfter (remake o) l m = remade o m
 
--- from the memory before the deed, and from latches and memory after it. A show hands back the caller's own eight pixels
+-- from the memory before the deed, and from latches and memory after it. An older show hands back the caller's own eight pixels
 unfoldable pub valueOf : Reply → Memory → List ℕ → Memory → Value
 valueOf (known v) was l m = v
 valueOf (byteAt p o) was l m = one (byte m p o)
@@ -133,6 +162,7 @@ valueOf (compare care colour) was l m = one (compared care colour l)
 valueOf (pixelAt j) was l m = pixel (getD (m .picture) j 0)
 valueOf (pixelsAt j) was l m = part (take 8 (drop j (m .picture)))
 valueOf (changesAt o) was l m = changesOf (changedAt was m o)
+valueOf (shownAt d o) was l m = shown d (shownIn d m o)
 
 -- a plan carried out on memory alone, with no latches at hand
 unfoldable pub perform : Plan → Memory → Outcome Memory

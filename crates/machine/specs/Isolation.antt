@@ -5,22 +5,24 @@ use mathlib.Core.Path.{_≡_}
 use mathlib.Core.Bool.{Bool}
 use mathlib.Core.List.{List, [], _∷_, map}
 use lib.Dec.{eqb}
-use lib.ListN.{length}
+use lib.ListN.{length, getD}
 use Rattle.bits.specs.Bit.{bit, pick}
 use Rattle.machine_types.specs.declared.gc.GraphicsRegisters.{GraphicsRegisters}
 use Rattle.machine_types.specs.declared.gc.GraphicsController.{GraphicsController}
 use Rattle.machine_types.specs.declared.gc.ReadMode.{ReadMode}
 use Rattle.machine_types.specs.declared.gc.ReadMode.the-variants.{ReadSelectedPlane, ReadComparedPlanes}
+use Rattle.machine_types.specs.declared.gc.ShiftMode.{ShiftMode}
+use Rattle.machine_types.specs.declared.gc.ShiftMode.the-variants.{Standard, CGACompatible, Chain4, Unused}
 use Rattle.machine_types.specs.declared.seq.Sequencer.{Sequencer}
 use Rattle.machine.specs.Memory.{Memory, plane}
-use Rattle.machine.specs.Answers.{Value, one, two, pixel, part, changes, changesOf, Said, said, Outcome}
+use Rattle.machine.specs.Answers.{Value, one, two, pixel, part, changes, changesOf, shown, Said, said, Outcome}
 use Rattle.machine.specs.Graphics.{readMode}
 use Rattle.machine.specs.Address.{offset}
 use Rattle.machine.specs.DataPath.{selectedPlane, peekedPlane}
-use Rattle.machine.specs.Deeds.{latch}
+use Rattle.machine.specs.Deeds.{latch, eight}
 use Rattle.machine.specs.Calls.{VramCall, readU8, peekU8, readGlyph, readLinear, serializeLinear, writeU8, planeSet, planeAnd, planeOr, deplane}
 use Rattle.machine.specs.Calls.{DirectCall, seqCpuReadU8, seqPeekU8, seqGcReadU8, seqReadLinear, seqSerializeLinear, seqPlaneSet, seqPlaneAnd, seqPlaneOr}
-use Rattle.machine.specs.Calls.{CpuCall, cpuRead, cpuPeek, cpuWrite, serialize}
+use Rattle.machine.specs.Calls.{CpuCall, cpuRead, cpuPeek, cpuWrite, serialize, showPixels}
 use Rattle.machine.specs.Step.{State, Call, vram, sequencer, direct, graphics, cpu, step}
 
 -- ---- two states alike, lengths included, except in plane k's bytes, latch k and bit k of each pixel
@@ -101,6 +103,7 @@ cpuNotFrom k r s (cpuRead x page) = selectedNotFrom k (readMode r) r s x (offset
 cpuNotFrom k r s (cpuPeek x page) = Unit {0}
 cpuNotFrom k r s (cpuWrite x page v) = Unit {0}
 cpuNotFrom k r s (serialize o) = Unit {0}
+cpuNotFrom k r s (showPixels o) = Unit {0}
 
 -- no selected-plane or direct plane read answers from plane k
 unfoldable pub NotFrom : ℕ → State → Call → Type 0
@@ -121,6 +124,7 @@ cpuWithout k r (cpuRead x page) = comparedWithout k (readMode r) r
 cpuWithout k r (cpuPeek x page) = Unit {0}
 cpuWithout k r (cpuWrite x page v) = Unit {0}
 cpuWithout k r (serialize o) = Unit {0}
+cpuWithout k r (showPixels o) = Unit {0}
 
 -- each accepted compare read has k's Color Don't Care bit clear
 unfoldable pub ComparesWithout : ℕ → State → Call → Type 0
@@ -136,6 +140,7 @@ cpuNoPeek k r s (cpuRead x page) = Unit {0}
 cpuNoPeek k r s (cpuPeek x page) = peekedPlane s (offset r x page) ≢ k
 cpuNoPeek k r s (cpuWrite x page v) = Unit {0}
 cpuNoPeek k r s (serialize o) = Unit {0}
+cpuNoPeek k r s (showPixels o) = Unit {0}
 
 -- no peek answers from plane k
 unfoldable pub NoPeek : ℕ → State → Call → Type 0
@@ -177,14 +182,28 @@ Along P s (c ∷ cs) = P s c × Along P (step s c .next) cs
 
 -- ---- the conclusion
 
--- pixels handed out may differ in bit k only, the four numbers of a store in plane k's only (K6)
+-- K3: pixel j of two shows in one shift mode. From the picture it may differ in bit k only; in Chain4 pixels 2k and 2k + 1 may differ, and in CGACompatible the first four
+-- where k is 0 and the last four where k is 1, in any bit; no other pixel may
+unfoldable pub AlikePixel : ℕ → ShiftMode → ℕ → ℕ → ℕ → Type 0
+AlikePixel k Standard j x y = Agree k x y
+AlikePixel k CGACompatible j x y = j / 4 ≢ k → x ≡ y
+AlikePixel k Chain4 j x y = j / 2 ≢ k → x ≡ y
+AlikePixel k Unused j x y = Agree k x y
+
+-- as many pixels, each alike by its place
+pub record AlikeShow (k : ℕ) (d : ShiftMode) (l u : List ℕ) : Type 0 where
+  pub long : length l ≡ length u
+  pub at : (j : ℕ) → AlikePixel k d j (getD l j 0) (getD u j 0)
+
+-- pixels handed out may differ in bit k only, the four numbers of a store in plane k's only (K6), the pixels of two shows in one shift mode as that mode allows (K3)
 pub data AlikeValue (k : ℕ) : Value → Value → Type 0 where
   same : {v : Value} → AlikeValue k v v
   pixels : {x y : ℕ} → Agree k x y → AlikeValue k (pixel x) (pixel y)
   parts : {l u : List ℕ} → Both (Agree k) l u → AlikeValue k (part l) (part u)
   numbers : {f g : ℕ → ℕ} → ((p : ℕ) → p ≢ k → f p ≡ g p) → AlikeValue k (changesOf f) (changesOf g)
+  shows : {d : ShiftMode} {l u : List ℕ} → AlikeShow k d l u → AlikeValue k (shown d l) (shown d u)
 
--- answers and refusals agree, values but for bit k of pixels and plane k's number of a store
+-- answers and refusals agree, values but for bit k of pixels, plane k's number of a store and plane k's pixels of a show
 pub record AlikeSaid (k : ℕ) (a b : Said) : Type 0 where
   pub number : a .number ≡ b .number
   pub value : AlikeValue k (a .value) (b .value)
@@ -203,11 +222,18 @@ Throughout k s t (c ∷ cs) = Alike k s t × Together k (Alike k) (step s c) (st
 unfoldable pub less : ℕ → ℕ → ℕ
 less k x = x / 2 ^ suc k * 2 ^ suc k + x % 2 ^ k
 
--- a plane's number of a store, none of plane k
+-- what is a plane's own, a number of a store or a pixel of a show; none of plane k
 unfoldable pub lessOf : ℕ → ℕ → ℕ → ℕ
 lessOf k p x = pick (eqb p k) 0 x
 
--- what is handed out, less bit k of each pixel and less plane k's number of a store
+-- K3: pixel j of a show, less what plane k makes of it: its bit k, or all of it
+unfoldable pub lessPixel : ℕ → ShiftMode → ℕ → ℕ → ℕ
+lessPixel k Standard j x = less k x
+lessPixel k CGACompatible j x = lessOf k (j / 4) x
+lessPixel k Chain4 j x = lessOf k (j / 2) x
+lessPixel k Unused j x = less k x
+
+-- what is handed out, less bit k of each pixel, less plane k's number of a store and less plane k's pixels of a show
 unfoldable pub lessSaid : ℕ → Said → Said
 lessSaid k a = said (a .number) (lessValue (a .value))
   where
@@ -217,3 +243,4 @@ lessSaid k a = said (a .number) (lessValue (a .value))
     lessValue (pixel x) = pixel (less k x)
     lessValue (part l) = part (map (less k) l)
     lessValue (changes a b c d) = changes (lessOf k 0 a) (lessOf k 1 b) (lessOf k 2 c) (lessOf k 3 d)
+    lessValue (shown d l) = shown d (eight (λ j. lessPixel k d j (getD l j 0)))

@@ -16,7 +16,7 @@ pub enum Refusal {
     Offset,
     // 4: a plane number is above 3
     Plane,
-    // 5: a shown offset is n or more, or a pixel place is 8n or more
+    // 5: a shown offset is n or more, of a show in CGACompatible the next one too, or a pixel place is 8n or more
     Place,
     // 6: the state holds a value its registers cannot
     State,
@@ -24,7 +24,7 @@ pub enum Refusal {
     Damaged,
     // 8: a tape operation or argument is out of range
     Range,
-    // 9: a show while the shift mode is Chain4 or CGACompatible
+    // 9: the older show while the shift mode is Chain4 or CGACompatible
     Shift,
     // 10: a lent buffer is too short
     Room,
@@ -113,4 +113,10 @@ pub struct CpuByte {
 pub struct CpuStore {
     pub answer: StoreAnswer,
     pub gc: GraphicsController,
+}
+
+// An answer and the eight pixels of a show, all 0 where it is refused.
+pub struct ShownPixels {
+    pub answer: DoneAnswer,
+    pub pixels: [u8; 8],
 }

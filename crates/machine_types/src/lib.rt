@@ -20,6 +20,7 @@ pub use answer::Refusal;
 pub use answer::SequencerDone;
 pub use answer::SequencerFlag;
 pub use answer::ShiftAnswer;
+pub use answer::ShownPixels;
 pub use answer::StoreAnswer;
 pub use gc::GraphicsController;
 pub use gc::GraphicsControllerStats;
