@@ -1,4 +1,3 @@
-pub mod Laws
 pub mod Told
 pub mod StoredRules
 pub mod Determined

@@ -1,7 +1,7 @@
 -- What is said tells the answer: two answers in numbers that say the same are one.
 use Prim.Native.Nat.{ℕ}
 use mathlib.Core.Path.{_≡_, ap, ap₂, _∙_}
-use Rattle.machine.specs.Answers.{Value, one, two, pixel, part, changes, Said}
+use Rattle.machine.specs.Answers.{Value, one, two, pixel, part, changes, shown, Said}
 use Rattle.answers.specs.declared.narrow.Answer.{Answer}
 use Rattle.answers.specs.declared.wide.Clock.{Clock}
 use Rattle.answers.specs.declared.wide.Mapped.{Mapped}
@@ -15,6 +15,7 @@ firstOf (two x y) = x
 firstOf (pixel x) = x
 firstOf (part l) = 0
 firstOf (changes a b c d) = a
+firstOf (shown d l) = 0
 
 abbrev pub secondOf : Value → ℕ
 secondOf (one x) = 0
@@ -22,6 +23,7 @@ secondOf (two x y) = y
 secondOf (pixel x) = 0
 secondOf (part l) = 0
 secondOf (changes a b c d) = b
+secondOf (shown d l) = 0
 
 module _ {s t : Said} (e : s ≡ t) where
   pub number-of : s .number ≡ t .number

@@ -5,7 +5,8 @@ use mathlib.Core.List.{List, [], _∷_}
 use lib.Dec.{eqb}
 use lib.ListN.{length}
 use Rattle.bits.specs.Bit.{pick}
-use Rattle.machine.specs.Answers.{Value, one, two, pixel, part, changes, pixelsOf, Said, said, Outcome}
+use Rattle.machine_types.specs.declared.answer.ShownPixels.{ShownPixels}
+use Rattle.machine.specs.Answers.{Value, one, two, pixel, part, changes, shown, noPixels, pixelsOf, Said, said, Outcome, doneSaid}
 use Rattle.answers.specs.declared.wide.Clock.{Clock}
 use Rattle.answers.specs.declared.wide.Mapped.{Mapped}
 use Rattle.answers.specs.declared.wide.Shown.{Shown}
@@ -21,11 +22,19 @@ mappedAnswerSaid a = said (a .number) (two (a .offset) (a .a0))
 
 -- a part of eight pixels as it is; eight zeros where there are not eight, as in the empty part of a refusal
 abbrev pub eightOf : List ℕ → List ℕ
-eightOf l = pick (eqb (length l) 8) l (0 ∷ 0 ∷ 0 ∷ 0 ∷ 0 ∷ 0 ∷ 0 ∷ 0 ∷ [])
+eightOf l = pick (eqb (length l) 8) l noPixels
 
--- a show's answer by value
+-- an older show's answer by value
 abbrev pub shownOf : Said → Shown
 shownOf s = record { number = s .number; pixels = eightOf (pixelsOf (s .value)) }
+
+-- K3, a show's answer by value: its pixels are eight, refused or not
+abbrev pub pixelsShown : Said → Shown
+pixelsShown s = record { number = s .number; pixels = pixelsOf (s .value) }
+
+-- .. from what the call hands back
+abbrev pub inNumbers : ShownPixels → Shown
+inNumbers x = record { number = doneSaid (x .answer) .number; pixels = x .pixels }
 
 -- the four numbers of a store, plane 0 first; no other value has any
 abbrev pub fourOf : Value → List ℕ
@@ -34,6 +43,7 @@ fourOf (two x y) = 0 ∷ 0 ∷ 0 ∷ 0 ∷ []
 fourOf (pixel x) = 0 ∷ 0 ∷ 0 ∷ 0 ∷ []
 fourOf (part l) = 0 ∷ 0 ∷ 0 ∷ 0 ∷ []
 fourOf (changes a b c d) = a ∷ b ∷ c ∷ d ∷ []
+fourOf (shown d l) = 0 ∷ 0 ∷ 0 ∷ 0 ∷ []
 
 -- a store's answer by value
 abbrev pub storedOf : Said → Stored

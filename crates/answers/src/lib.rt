@@ -22,6 +22,7 @@ pub use wide::Stored;
 pub use wide::of_clock;
 pub use wide::of_mapped;
 pub use wide::of_part;
+pub use wide::of_shown;
 pub use wide::of_store;
 pub use wide::unknown_shown;
 pub use wide::unknown_stored;

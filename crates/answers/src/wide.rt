@@ -2,10 +2,12 @@
 ghost use mathlib.Core.Path.{_≡_};
 ghost use mathlib.Core.List.{[]};
 ghost use Rattle.machine.specs.Answers.{changes, said, clockSaid, mappedSaid, partSaid, storeSaid};
-ghost use Rattle.answers.specs.Wide.{clockAnswerSaid, mappedAnswerSaid, shownOf, storedOf};
+ghost use Rattle.answers.specs.Wide.{clockAnswerSaid, mappedAnswerSaid, shownOf, inNumbers, storedOf};
+use crate::narrow::of_done;
 use machine_types::ClockAnswer;
 use machine_types::MappedAnswer;
 use machine_types::Refusal;
+use machine_types::ShownPixels;
 use machine_types::StoreAnswer;
 
 // The character clock.
@@ -23,7 +25,7 @@ pub struct Mapped {
     pub a0: u8,
 }
 
-// The eight pixels of a show by value, since a part of a lent slice cannot cross the boundary; eight zeros where refused.
+// The eight pixels of a show by value, of the older one too, since a part of a lent slice cannot cross the boundary; eight zeros where refused.
 #[repr(C)]
 pub struct Shown {
     pub pixels: [u8; 8],
@@ -78,7 +80,7 @@ pub fn unknown_shown() -> Shown
     }
 }
 
-// A show's number, and its eight pixels where there are eight.
+// An older show's number, and its eight pixels where there are eight.
 pub fn of_part(number: u8, part: &[u8]) -> Shown
     ensures { λ r. ⌜ r ≡ shownOf (partSaid number (now (part .entry))) ⌝ }
 {
@@ -99,6 +101,19 @@ pub fn of_part(number: u8, part: &[u8]) -> Shown
         part[7],
     ];
     Shown { number, pixels }
+}
+
+// A show's number and its eight pixels.
+pub fn of_shown(given: ShownPixels) -> Shown
+    ensures { λ r. ⌜ r ≡ inNumbers given ⌝ }
+{
+    let answer = given.answer;
+    let pixels = given.pixels;
+    let told = of_done(answer);
+    Shown {
+        pixels,
+        number: told.number,
+    }
 }
 
 pub fn unknown_stored() -> Stored

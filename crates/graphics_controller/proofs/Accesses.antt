@@ -21,13 +21,13 @@ use Rattle.machine_types.specs.declared.gc.ReadMode.the-variants.{ReadSelectedP
 use Rattle.machine_types.specs.declared.seq.Sequencer.{Sequencer}
 use Rattle.machine_types.specs.declared.shape.Shape.{Shape}
 use Rattle.machine.specs.Memory.{Memory, shape, sound}
-use Rattle.machine.specs.Answers.{refusalNumber, Value, one, two, part, changes, changesOf, blank, Said, said, Outcome, outcome, answered, mappedSaid}
+use Rattle.machine.specs.Answers.{refusalNumber, Value, one, two, part, changes, changesOf, shown, noPixels, blank, Said, said, Outcome, outcome, answered, mappedSaid}
 use Rattle.machine.specs.Graphics.{fitsGc, memoryMap, chained, oddEven, isOddEven, readMode, writeMode, shiftMode, gcOf}
 use Rattle.machine.specs.Sequencer.{fitsSeq, chainFour, storedAt, answersFrom}
 use Rattle.machine.specs.Address.{inWindow, a0, mapped, offset}
 use Rattle.machine.specs.DataPath.{mapSelected, selectedPlane, peekedPlane}
-use Rattle.machine.specs.Deeds.{byte, latch, loaded, changedAt, latchesAfter, memoryAfter, valueOf}
-use Rattle.machine.specs.Calls.{refuse, fitsBoth, accessNumber, shows, showNumber, readReply, writeDeed, cpuPlan, cpuRead, cpuPeek, cpuWrite, serialize}
+use Rattle.machine.specs.Deeds.{byte, latch, loaded, changedAt, shownIn, latchesAfter, memoryAfter, valueOf}
+use Rattle.machine.specs.Calls.{refuse, fitsBoth, accessNumber, shows, showNumber, lastShown, pixelsNumber, readReply, writeDeed, cpuPlan, cpuRead, cpuPeek, cpuWrite, serialize, showPixels}
 use Rattle.machine.specs.Calls.{CpuPlan, readCounter, writeCounter, refusedCounter, noCounter, refusalCounter, counted}
 use Rattle.machine.specs.Step.{device, lifted, cpuRefused, cpuPerform, cpuStep}
 use Rattle.machine.proofs.Laws.{both, refuse-0, sound-facts, AtOffset, answered-refused, none-raised}
@@ -101,6 +101,15 @@ show-accepted r s m o e =
     let d = refuse-0 _ 4 _ (c .1) in
     record { shaped = sound-facts (shape m) (b .0); offset = ltb-true _ _ (d .0) }
 
+-- 6, 1 and 5 passed
+pub pixels-accepted : (r : GraphicsRegisters) (s : Sequencer) (m : Memory) (o : ℕ) → 0 ≡ pixelsNumber r s (shape m) o → AtOffset (shape m) (lastShown (shiftMode r) o)
+unfolding pixelsNumber
+pixels-accepted r s m o e =
+    let a = refuse-0 (fitsBoth r s) 5 _ (sym e) in
+    let b = refuse-0 (sound (shape m)) 0 _ (a .1) in
+    let c = refuse-0 _ 4 _ (b .1) in
+    record { shaped = sound-facts (shape m) (b .0); offset = ltb-true _ _ (c .0) }
+
 -- ---- a plan carried out
 
 module _ (a : CpuPlan) (g : GraphicsController) (m : Memory) where
@@ -173,7 +182,7 @@ unfolding readReply valueOf
 read-blank ReadSelectedPlane r s x o was l m = refl
 read-blank ReadComparedPlanes r s x o was l m = refl
 
--- ---- the four calls
+-- ---- the five calls
 
 module _ (g : GraphicsController) (s : Sequencer) (m : Memory) (x : ℕ) (page : Bool) where
   abbrev number : ℕ
@@ -246,3 +255,14 @@ module _ (g : GraphicsController) (s : Sequencer) (m : Memory) (o : ℕ) where
   pub show-done : (l : List ℕ) → 0 ≡ showNumber (g .registers) s (shape m) o → l ≡ take 8 (drop (8 * o) (m .picture)) → outcome (said 0 (part l)) (device g m) ≡ cpuStep g s m (serialize o)
   unfolding cpuStep cpuPlan counted latchesAfter memoryAfter valueOf
   show-done l e el = cpu-done (cpuPlan (g .registers) s (shape m) (serialize o)) g m g m (part l) e refl refl (ap part el)
+
+  pub pixels-refused : (k : ℕ) → 0 < k → k ≡ pixelsNumber (g .registers) s (shape m) o
+      → outcome (said k (shown (shiftMode (g .registers)) noPixels)) (device g m) ≡ cpuStep g s m (showPixels o)
+  unfolding cpuStep cpuPlan valueOf
+  pixels-refused k h e = cpu-uncounted (cpuPlan (g .registers) s (shape m) (showPixels o)) g m k (shown (shiftMode (g .registers)) noPixels) refl h e refl
+
+  pub pixels-done : (l : List ℕ) → 0 ≡ pixelsNumber (g .registers) s (shape m) o → l ≡ shownIn (shiftMode (g .registers)) m o
+      → outcome (said 0 (shown (shiftMode (g .registers)) l)) (device g m) ≡ cpuStep g s m (showPixels o)
+  unfolding cpuStep cpuPlan counted latchesAfter memoryAfter valueOf
+  pixels-done l e el =
+      cpu-done (cpuPlan (g .registers) s (shape m) (showPixels o)) g m g m (shown (shiftMode (g .registers)) l) e refl refl (ap (shown (shiftMode (g .registers))) el)

@@ -15,7 +15,7 @@ use Rattle.machine_types.specs.declared.gc.GraphicsController.{GraphicsControll
 use Rattle.machine.specs.Memory.{Memory, lent}
 use Rattle.machine.specs.Answers.{Said, Outcome, outcome, byteSaid, storeSaid}
 use Rattle.machine.specs.Step.{Device, device}
-use Rattle.machine.proofs.Injective.{answer-of, next-of, pixels-of, byte-injective, store-injective}
+use Rattle.machine.proofs.Injective.{answer-of, next-of, pixels-of, byte-injective, store-injective, shown-injective}
 use Rattle.machine_types.proofs.OneAnswer.{OneAnswer, OneOutcome}
 use Rattle.graphics_controller.proofs.access.cpu_read_u8.Reads as cpu-read-u8
 use Rattle.graphics_controller.proofs.access.cpu_read_u8.Kinds as cpu-read-u8-kinds
@@ -25,6 +25,8 @@ use Rattle.graphics_controller.proofs.access.cpu_write_u8.Reads as cpu-
 use Rattle.graphics_controller.proofs.access.cpu_write_u8.Kinds as cpu-write-u8-kinds
 use Rattle.graphics_controller.proofs.show.serialize.Reads as serialize
 use Rattle.graphics_controller.proofs.show.serialize.Kinds as serialize-kinds
+use Rattle.graphics_controller.proofs.show.show_pixels.Reads as show-pixels
+use Rattle.graphics_controller.proofs.show.show_pixels.Kinds as show-pixels-kinds
 
 gc-of : {a b : Said} {g h : GraphicsController} {m n : Memory} {o : Outcome Device} → outcome a (device g m) ≡ o → outcome b (device h n) ≡ o → g ≡ h
 gc-of p q = ap (λ (d : Device). d .gc) (next-of p q)
@@ -63,3 +65,7 @@ module _ (κs : Lfts 6) (a : Dens κs serialize-kinds.ps) where
 
   pub serialize-determined : (r r′ : RefT (List ℕ)) (e e′ : Shown) → serialize.Post κs a r e → serialize.Post κs a r′ e′ → (now r ≡ now r′) × (beside e ≡ beside e′)
   serialize-determined r r′ e e′ p q = (pixels-of p q, ap (λ (s : Said). s .number) (answer-of p q))
+
+module _ (κs : Lfts 5) (a : Dens κs show-pixels-kinds.ps) where
+  pub show-pixels-determined : OneAnswer (show-pixels.Post κs a)
+  show-pixels-determined r r′ e e′ p q = shown-injective _ r r′ (answer-of p q)

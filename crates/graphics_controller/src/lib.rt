@@ -1,4 +1,4 @@
-// The graphics controller: the processor's accesses and the show, and what has no memory: its registers (`graphics_registers`) and `map_address` (`graphics_address`).
+// The graphics controller: the processor's accesses and the shows, and what has no memory: its registers (`graphics_registers`) and `map_address` (`graphics_address`).
 mod access;
 mod show;
 
@@ -17,3 +17,4 @@ pub use graphics_registers::shift_mode;
 pub use graphics_registers::write_address;
 pub use graphics_registers::write_data;
 pub use show::serialize;
+pub use show::show_pixels;

@@ -103,6 +103,8 @@ use Rattle.host.proofs.access.iddesmar_gc_cpu_peek_u8.Reads as gc-cpu-p
 use Rattle.host.proofs.access.iddesmar_gc_cpu_peek_u8.Kinds as gc-cpu-peek-u8-kinds
 use Rattle.host.proofs.access.iddesmar_gc_serialize.Reads as gc-serialize
 use Rattle.host.proofs.access.iddesmar_gc_serialize.Kinds as gc-serialize-kinds
+use Rattle.host.proofs.access.iddesmar_gc_show_pixels.Reads as gc-show-pixels
+use Rattle.host.proofs.access.iddesmar_gc_show_pixels.Kinds as gc-show-pixels-kinds
 use Rattle.host.proofs.access.iddesmar_gc_cpu_read_u8 as gc-cpu-read-u8
 use Rattle.host.proofs.access.iddesmar_gc_cpu_write_u8 as gc-cpu-write-u8
 use Rattle.host.proofs.ports.iddesmar_gc_reset as gc-reset
@@ -270,6 +272,10 @@ module _ (κs : Lfts 5) (a : Dens κs gc-cpu-peek-u8-kinds.ps) where
 module _ (κs : Lfts 5) (a : Dens κs gc-serialize-kinds.ps) where
   pub gc-serialize-determined : OneAnswer (gc-serialize.Post κs a)
   gc-serialize-determined r r′ e e′ p q = p ∙ sym q
+
+module _ (κs : Lfts 5) (a : Dens κs gc-show-pixels-kinds.ps) where
+  pub gc-show-pixels-determined : OneAnswer (gc-show-pixels.Post κs a)
+  gc-show-pixels-determined r r′ e e′ p q = p ∙ sym q
 
 -- ---- the record updated where it stands: a contract that is proved by a walk has no generated reading, so each stands here, with the proof that it is the contract's own clause
 

@@ -2,20 +2,23 @@
 ghost use mathlib.Core.Path.{_≡_};
 ghost use mathlib.Core.List.{[]};
 ghost use Rattle.machine.specs.Memory.{before, after};
-ghost use Rattle.machine.specs.Answers.{one, part, changes, outcome};
-ghost use Rattle.machine.specs.Calls.{cpuRead, cpuPeek, cpuWrite, serialize};
+ghost use Rattle.machine.specs.Answers.{one, part, changes, shown, noPixels, outcome};
+ghost use Rattle.machine.specs.Graphics.{shiftMode};
+ghost use Rattle.machine.specs.Calls.{cpuRead, cpuPeek, cpuWrite, serialize, showPixels};
 ghost use Rattle.answers.specs.Answers.{answerSaid};
-ghost use Rattle.answers.specs.Wide.{shownOf, StoredAs};
-ghost use Rattle.host_records.specs.Records.{isSet};
+ghost use Rattle.answers.specs.Wide.{shownOf, pixelsShown, StoredAs};
+ghost use Rattle.host_records.specs.Records.{isSet, controllerOf};
 ghost use Rattle.host_calls.specs.Hosted.{held, cpuHosted};
 use answers::Answer;
 use answers::Shown;
 use answers::Stored;
 use answers::of_byte;
 use answers::of_part;
+use answers::of_shown;
 use answers::unknown;
 use answers::unknown_shown;
 use graphics_controller::cpu_peek_u8;
+use graphics_controller::show_pixels;
 use host_calls::read_of;
 use host_calls::write_of;
 use host_records::record::ControllerRecord;
@@ -92,7 +95,7 @@ pub extern "C" fn iddesmar_gc_cpu_peek_u8(
     of_byte(answer)
 }
 
-// The eight pixels of an offset.
+// The eight pixels of an offset, by the older show: refused in two shift modes.
 #[no_mangle]
 pub extern "C" fn iddesmar_gc_serialize(
     gc: ControllerRecord,
@@ -124,4 +127,27 @@ pub extern "C" fn iddesmar_gc_serialize(
         &mut number,
     );
     of_part(number, part)
+}
+
+// The eight pixels of an offset, in every shift mode.
+#[no_mangle]
+pub extern "C" fn iddesmar_gc_show_pixels(
+    gc: ControllerRecord,
+    seq: SequencerRecord,
+    p0: &[u8],
+    p1: &[u8],
+    p2: &[u8],
+    p3: &[u8],
+    picture: &[u8],
+    offset: usize,
+) -> Shown
+    ensures { λ r. ⌜ r ≡ pixelsShown (cpuHosted gc seq (before p0 p1 p2 p3 picture) (shown (shiftMode (controllerOf gc .registers)) noPixels) (showPixels offset) .answer) ⌝ }
+{
+    if !known(gc, seq) {
+        return unknown_shown();
+    }
+    let controller = to_controller(gc);
+    let seq = to_sequencer(seq);
+    let offset = PlaneOffset(offset);
+    of_shown(show_pixels(controller, seq, p0, p1, p2, p3, picture, offset))
 }

@@ -15,7 +15,7 @@ use Rattle.machine.specs.Calls.{SequencerCall, DirectCall, GraphicsCall, CpuCal
 use Rattle.machine.specs.Step.{Device, device, lifted, cpuAfter, cpuRefused, cpuPerform, sequencerStep, directStep, graphicsStep, cpuStep}
 use Rattle.answers.specs.declared.wide.Shown.{Shown}
 use Rattle.answers.specs.declared.wide.Stored.{Stored}
-use Rattle.answers.specs.Wide.{shownOf, storedOf, StoredAs}
+use Rattle.answers.specs.Wide.{storedOf, StoredAs}
 use Rattle.host_records.specs.declared.record.StatsRecord.{StatsRecord}
 use Rattle.host_records.specs.declared.record.ControllerRecord.{ControllerRecord}
 use Rattle.host_records.specs.declared.record.SequencerRecord.{SequencerRecord}
@@ -111,9 +111,9 @@ module _ (g : ControllerRecord) (s : SequencerRecord) (m : Memory) (v : Value) (
       → outcome a (device g′ m) ≡ cpuStep g′ s′ m c → outcome b (held g m) ≡ cpuHosted g s m v c
   cpu-asked e g′ s′ i j a b f p = cpu-known e g′ s′ i j a b g′ g m f (sym (ap (controllerRecordOf (g .spare)) i ∙ record-back g (known-gc g s e))) p
 
--- the answer of a show, by value
-pub shown-of : {S : Type 0} (a : Said) (t : S) (o : Outcome S) (r : Shown) → r ≡ shownOf a → outcome a t ≡ o → r ≡ shownOf (o .answer)
-shown-of {S = S} a t o r f p = f ∙ ap (λ (o : Outcome S). shownOf (o .answer)) p
+-- the answer of a show, by value: of an older one, of one that serves every shift mode
+pub shown-of : {S : Type 0} (by : Said → Shown) (a : Said) (t : S) (o : Outcome S) (r : Shown) → r ≡ by a → outcome a t ≡ o → r ≡ by (o .answer)
+shown-of {S = S} by a t o r f p = f ∙ ap (λ (o : Outcome S). by (o .answer)) p
 
 -- the answer of a store, by value, and what it leaves
 pub stored-as : {S : Type 0} (a : Said) (t : S) (o : Outcome S) (r : Stored) → r ≡ storedOf a → outcome a t ≡ o → StoredAs r t o

@@ -8,7 +8,7 @@ use mathlib.Core.Bool.{Bool, true, false}
 use Rattle.bits.specs.Bit.{pick}
 use Rattle.machine.specs.Memory.{Memory}
 use Rattle.machine.specs.Answers.{Value}
-use Rattle.machine.specs.Calls.{CpuCall, cpuRead, cpuPeek, cpuWrite, serialize}
+use Rattle.machine.specs.Calls.{CpuCall, cpuRead, cpuPeek, cpuWrite, serialize, showPixels}
 use Rattle.machine.specs.Step.{lifted, cpuStep, State, cpu, withGc, step}
 use Rattle.machine.specs.Claims.{turnsAway, oneMoreRefused, afterRefusal}
 use Rattle.machine.proofs.Refusals.{refused-stays}
@@ -28,6 +28,7 @@ six-stays (cpuRead x page) g m = refl
 six-stays (cpuPeek x page) g m = refl
 six-stays (cpuWrite x page v) g m = refl
 six-stays (serialize o) g m = refl
+six-stays (showPixels o) g m = refl
 
 module _ (g : ControllerRecord) (s : SequencerRecord) (m : Memory) where
   -- the machine's state that is left, as a host keeps it
@@ -79,3 +80,6 @@ module _ (g : ControllerRecord) (s : SequencerRecord) (m : Memory) where
 
     show-refused : (n : ℕ) → cpuHosted g s m v (serialize x) .answer .number ≡ suc n → cpuHosted g s m v (serialize x) .next ≡ held g m
     show-refused n = left-by v (serialize x) n
+
+    pixels-refused : (n : ℕ) → cpuHosted g s m v (showPixels x) .answer .number ≡ suc n → cpuHosted g s m v (showPixels x) .next ≡ held g m
+    pixels-refused n = left-by v (showPixels x) n

@@ -23,7 +23,7 @@ pub const PUT: usize = 44;
 
 pub fn is_on_memory(operation: usize) -> bool {
     match operation {
-        0..=10 | 19..=26 | 38..=41 | 44 => true,
+        0..=10 | 19..=26 | 38..=41 | 44 | 46 => true,
         _ => false,
     }
 }

@@ -3,14 +3,17 @@ use crate::asked::Asked;
 use answers::of_byte;
 use answers::of_part;
 use answers::of_pixel;
+use answers::of_shown;
 use graphics_controller::cpu_peek_u8;
 use graphics_controller::cpu_read_u8;
 use graphics_controller::serialize;
+use graphics_controller::show_pixels;
 use list_lines::said::GraphicsLeft;
 use list_lines::said::Said;
 use list_lines::said::answer;
 use list_lines::said::done;
 use list_lines::said::kept;
+use list_lines::said::pixels;
 use list_lines::said::shown;
 use machine_types::CpuByte;
 use machine_types::GraphicsController;
@@ -18,7 +21,7 @@ use machine_types::PixelPlace;
 use machine_types::PlaneOffset;
 use machine_types::Sequencer;
 
-// What a show's number is before the call: no answer has it.
+// What an older show's number is before the call: no answer has it.
 const UNTOLD: u8 = 255;
 
 pub fn reads(
@@ -105,6 +108,10 @@ fn of_controller(
         39 => {
             let byte = cpu_peek_u8(gc, seq, p0, p1, p2, p3, picture, a.first, a.page);
             kept(gc, answer(of_byte(byte)))
+        }
+        46 => {
+            let o = PlaneOffset(a.first);
+            kept(gc, pixels(of_shown(show_pixels(gc, seq, p0, p1, p2, p3, picture, o))))
         }
         _ => {
             let mut number = UNTOLD;

@@ -16,8 +16,10 @@ pub enum Said {
     Value(u8, u64),
     // offset and a0
     Mapped(u8, u64, u64),
-    // eight pixels, four bits each, the first one highest
+    // an older show that was answered: eight pixels, four bits each, the first one highest
     Shown(u64),
+    // a show: its pixels, refused or not
+    Pixels(u8, u64),
     // how many bits of each plane changed
     Stored(u8, u64, u64, u64, u64),
     // no operation has the line's number
@@ -69,13 +71,19 @@ pub fn bit(b: bool) -> u64 {
     if b { 1 } else { 0 }
 }
 
-// A show: eight pixels, or 0 where it was refused.
+// An older show: eight pixels, or 0 where it was refused.
 pub fn shown(given: Shown) -> Said {
     if given.number != 0 {
         return Said::Value(given.number, 0);
     }
     let pixels = given.pixels;
     Said::Shown(packed(&pixels))
+}
+
+// A show: eight pixels, all 0 where it was refused.
+pub fn pixels(given: Shown) -> Said {
+    let eight = given.pixels;
+    Said::Pixels(given.number, packed(&eight))
 }
 
 fn packed(pixels: &[u8]) -> u64 {
@@ -106,6 +114,10 @@ pub fn text(said: Said, out: &mut [u8; 512], at: usize) -> usize {
         }
         Said::Shown(shown) => {
             let next = number(out, at, 0);
+            eight(out, next, shown)
+        }
+        Said::Pixels(refusal, shown) => {
+            let next = number(out, at, refusal as u64);
             eight(out, next, shown)
         }
         Said::Stored(refusal, p0, p1, p2, p3) => {

@@ -1,10 +1,11 @@
--- What the proofs of the code cite of the machine: an answer by its number, what an accepted check says, a store plane by plane.
+-- What the proofs of the code cite of the machine: an answer by its number, what an accepted check says, a store plane by plane, eight pixels as a list.
 use Prim.Native.Nat.{ℕ, zero, suc, _*_, _/_, _≤_, _<_}
 use native.Mathlib.Omega.{arith}
 use mathlib.Core.Path.{_≡_, refl}
 use mathlib.Core.Bool.{Bool, true, false, _&&_}
-use mathlib.Core.List.{[]}
+use mathlib.Core.List.{List, [], _∷_}
 use lib.Dec.{eqb, ltb}
+use lib.ListN.{length, getD}
 use borrow.Author.Tests.{ltb-true, leb-true, eqb-true}
 use Rattle.bits.specs.Bit.{pick}
 use Rattle.machine_types.specs.declared.answer.Refusal.{Refusal}
@@ -218,3 +219,18 @@ module _ (o p : ℕ) (w : ℕ → Bool) (b : ℕ → ℕ) (m : Memory) (h : p �
       go (suc (suc zero)) l e = rw e
       go (suc (suc (suc zero))) l e = rw e
       go (suc (suc (suc (suc q)))) l e = absurd (omega arith)
+
+-- ---- a show's pixels
+
+-- eight entries are the list
+pub eight-entries : (l : List ℕ) → length l ≡ 8 → getD l 0 0 ∷ getD l 1 0 ∷ getD l 2 0 ∷ getD l 3 0 ∷ getD l 4 0 ∷ getD l 5 0 ∷ getD l 6 0 ∷ getD l 7 0 ∷ [] ≡ l
+eight-entries [] h = absurd (omega (arith, h))
+eight-entries (x0 ∷ []) h = absurd (omega (arith, h))
+eight-entries (x0 ∷ x1 ∷ []) h = absurd (omega (arith, h))
+eight-entries (x0 ∷ x1 ∷ x2 ∷ []) h = absurd (omega (arith, h))
+eight-entries (x0 ∷ x1 ∷ x2 ∷ x3 ∷ []) h = absurd (omega (arith, h))
+eight-entries (x0 ∷ x1 ∷ x2 ∷ x3 ∷ x4 ∷ []) h = absurd (omega (arith, h))
+eight-entries (x0 ∷ x1 ∷ x2 ∷ x3 ∷ x4 ∷ x5 ∷ []) h = absurd (omega (arith, h))
+eight-entries (x0 ∷ x1 ∷ x2 ∷ x3 ∷ x4 ∷ x5 ∷ x6 ∷ []) h = absurd (omega (arith, h))
+eight-entries (x0 ∷ x1 ∷ x2 ∷ x3 ∷ x4 ∷ x5 ∷ x6 ∷ x7 ∷ []) h = refl
+eight-entries (x0 ∷ x1 ∷ x2 ∷ x3 ∷ x4 ∷ x5 ∷ x6 ∷ x7 ∷ x8 ∷ l) h = absurd (omega (arith, h))

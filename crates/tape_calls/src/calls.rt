@@ -2,19 +2,18 @@
 ghost use mathlib.Core.Path.{_≡_};
 ghost use Rattle.machine.specs.Memory.{before, after};
 ghost use Rattle.machine.specs.Answers.{outcome, doneSaid};
-ghost use Rattle.machine.specs.Calls.{cpuRead, cpuPeek, cpuWrite, serialize};
+ghost use Rattle.machine.specs.Calls.{cpuRead, cpuPeek, cpuWrite, showPixels};
 ghost use Rattle.machine.specs.Step.{state, cpu, step};
-ghost use Rattle.tape_machine.specs.Told.{toldSaid, handedOf};
+ghost use Rattle.tape_machine.specs.Told.{toldSaid};
 ghost use Rattle.tape_machine.specs.Performs.{performed};
 use machine_types::GraphicsController;
 use machine_types::GraphicsDone;
 use machine_types::PlaneOffset;
 use machine_types::Sequencer;
 use machine_types::SequencerDone;
-use tape_machine::Eight;
-use tape_machine::Handed;
 use tape_machine::Told;
 use tape_machine::of_answer;
+use tape_machine::of_pixels;
 use tape_machine::of_store;
 use tape_records::Command;
 
@@ -128,7 +127,7 @@ fn write(
     }
 }
 
-// A show's part is copied out, since a record's line outlives the loan.
+// A show in the shift mode that the registers have.
 fn show(
     gc: GraphicsController,
     seq: Sequencer,
@@ -139,45 +138,17 @@ fn show(
     picture: &[u8],
     offset: PlaneOffset,
 ) -> Performed
-    ensures { λ r. ⌜ outcome (toldSaid (r .told)) (state (r .gc) (r .seq) (before p0 p1 p2 p3 picture)) ≡ step (state gc seq (before p0 p1 p2 p3 picture)) (cpu (serialize (offset .0))) ⌝ }
+    ensures { λ r. ⌜ outcome (toldSaid (r .told)) (state (r .gc) (r .seq) (before p0 p1 p2 p3 picture)) ≡ step (state gc seq (before p0 p1 p2 p3 picture)) (cpu (showPixels (offset .0))) ⌝ }
 {
-    let mut number: u8 = 0;
-    let part = graphics_controller::serialize(
-        gc,
-        seq,
-        p0,
-        p1,
-        p2,
-        p3,
-        picture,
-        offset,
-        &mut number,
-    );
-    let handed = pixels(part);
+    let mode = fields::gc::shift_mode(gc.registers);
+    let shown = graphics_controller::show_pixels(gc, seq, p0, p1, p2, p3, picture, offset);
+    let told = answers::of_shown(shown);
+    let pixels = told.pixels;
     Performed {
-        told: Told { number, handed },
+        told: of_pixels(mode, told.number, pixels),
         gc,
         seq,
     }
-}
-
-// The pixels of a part: eight, or none.
-fn pixels(part: &[u8]) -> Handed
-    ensures { λ r. ⌜ r ≡ handedOf (now (part .entry)) ⌝ }
-{
-    if part.len() != 8 {
-        return Handed::Nothing;
-    }
-    Handed::Pixels(Eight {
-        a: part[0],
-        b: part[1],
-        c: part[2],
-        d: part[3],
-        e: part[4],
-        f: part[5],
-        g: part[6],
-        h: part[7],
-    })
 }
 
 // A command carried out.

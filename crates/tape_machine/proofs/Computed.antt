@@ -2,7 +2,8 @@
 use Prim.Native.Nat.{ℕ, _*_}
 use mathlib.Core.List.{List}
 use lib.ListN.{length, take, replicate}
-use Rattle.machine.specs.Answers.{one, part, said}
+use Rattle.machine_types.specs.declared.gc.ShiftMode.the-variants.{Standard}
+use Rattle.machine.specs.Answers.{one, shown, said}
 use Rattle.machine.specs.Step.{State}
 use Rattle.machine.proofs.Computed.{computed}
 use Rattle.tape_numbers.specs.Numbers.{onTop, lastGroup, groups, numberOf}
@@ -41,7 +42,12 @@ unfoldable pub line : ℕ → ℕ → ℕ → ℕ → List ℕ
 unfolding computedRun
 line k operation number x = lineOf k (Was operation) (said number (one x))
 
--- .. of an accepted show whose eight pixels are alike
-unfoldable pub showLine : ℕ → ℕ → List ℕ
+-- .. of an accepted show, its pixels given; the shift mode is not told
+unfoldable pub digitsLine : ℕ → List ℕ → List ℕ
 unfolding computedRun
-showLine k x = lineOf k (Was 8) (said 0 (part (replicate 8 x)))
+digitsLine k l = lineOf k (Was 8) (said 0 (shown Standard l))
+
+-- .. whose eight pixels are alike
+unfoldable pub showLine : ℕ → ℕ → List ℕ
+unfolding digitsLine
+showLine k x = digitsLine k (replicate 8 x)

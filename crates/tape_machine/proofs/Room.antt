@@ -3,17 +3,17 @@ use Prim.Native.Nat.{ℕ, zero, suc, _+_, _-_, _*_, _/_, _%_, _≤_}
 use native.Mathlib.Omega.{arith}
 use mathlib.Core.Bool.{Bool, true, false}
 use mathlib.Core.List.{List, [], _∷_, _++_}
-use lib.Dec.{ltb}
+use lib.Dec.{eqb, ltb}
 use lib.ListN.{length, take, length-append, length-map, length-take}
 use Rattle.bits.specs.Bit.{pick}
-use Rattle.machine.specs.Answers.{Value, one, two, pixel, part, changes, Said}
+use Rattle.machine.specs.Answers.{Value, one, two, pixel, part, changes, shown, Said}
 use Rattle.machine.specs.Step.{State}
 use Rattle.tape_records.specs.declared.records.Operation.{Operation}
 use Rattle.tape_records.specs.declared.records.Operation.the-variants.{Unread, Was}
 use Rattle.tape_records.specs.declared.records.Record.{Record}
 use Rattle.tape_records.specs.declared.records.Record.the-variants.{Whole, Broken}
 use Rattle.tape_records.specs.Records.{recordOf}
-use Rattle.tape_machine.specs.Text.{digitsOf, decimalOf, fieldOf, hexOf}
+use Rattle.tape_machine.specs.Text.{digitsOf, decimalOf, fieldOf, hexOf, hexesOf}
 use Rattle.tape_machine.specs.Lines.{nameOf, valueText, lineOf}
 use Rattle.tape_machine.specs.Run.{longest, upToStop, recordsAfter, recordsOf, recordLine, left, linesOf}
 
@@ -40,14 +40,18 @@ unfolding nameOf
 name-length Unread = omega arith
 name-length (Was n) = field-length n
 
-value-length : (v : Value) → length (valueText v) ≤ 20
+shown-length : (t : Bool) (l : List ℕ) → length (pick t (hexesOf (take 8 l)) (decimalOf 0)) ≤ 20
+shown-length true l = omega (arith, length-map (take 8 l) hexOf, length-take 8 l)
+shown-length false l = decimal-length 0
+
+value-length : (n : ℕ) (v : Value) → length (valueText n v) ≤ 20
 unfolding valueText
-value-length (one x) = decimal-length x
-value-length (two x y) = decimal-length x
-value-length (pixel x) = decimal-length x
-value-length (part []) = decimal-length 0
-value-length (part (x ∷ l)) = omega (arith, length-map (take 8 (x ∷ l)) hexOf, length-take 8 (x ∷ l))
-value-length (changes a b c d) = decimal-length 0
+value-length n (one x) = decimal-length x
+value-length n (two x y) = decimal-length x
+value-length n (pixel x) = decimal-length x
+value-length n (part l) = decimal-length 0
+value-length n (changes a b c d) = decimal-length 0
+value-length n (shown d l) = shown-length (eqb n 0) l
 
 line-length : (k : ℕ) (o : Operation) (a : Said) → length (lineOf k o a) ≤ longest
 unfolding lineOf
@@ -57,11 +61,11 @@ line-length k o a =
       field-length k,
       name-length o,
       field-length (a .number),
-      value-length (a .value),
-      length-append (fieldOf k) (nameOf o ++ (fieldOf (a .number) ++ (valueText (a .value) ++ (10 ∷ [])))),
-      length-append (nameOf o) (fieldOf (a .number) ++ (valueText (a .value) ++ (10 ∷ []))),
-      length-append (fieldOf (a .number)) (valueText (a .value) ++ (10 ∷ [])),
-      length-append (valueText (a .value)) (10 ∷ []),
+      value-length (a .number) (a .value),
+      length-append (fieldOf k) (nameOf o ++ (fieldOf (a .number) ++ (valueText (a .number) (a .value) ++ (10 ∷ [])))),
+      length-append (nameOf o) (fieldOf (a .number) ++ (valueText (a .number) (a .value) ++ (10 ∷ []))),
+      length-append (fieldOf (a .number)) (valueText (a .number) (a .value) ++ (10 ∷ [])),
+      length-append (valueText (a .number) (a .value)) (10 ∷ []),
     )
 
 record-line-length : (k : ℕ) (s : State) (r : Record) → length (recordLine k s r) ≤ longest

@@ -16,7 +16,7 @@ use Rattle.machine.specs.Graphics.{registerNumber, gcOf}
 use Rattle.machine.specs.Sequencer.{seqNumber}
 use Rattle.machine.specs.Step.{State, state}
 use Rattle.tape_machine.specs.Run.{TapeRun}
-use Rattle.tape_machine.proofs.Computed.{roomyRun, line, showLine}
+use Rattle.tape_machine.proofs.Computed.{roomyRun, line, showLine, digitsLine}
 
 -- ---- a machine that is nowhere at its start: four bytes a plane, no two alike; the 64K map with chain odd/even, map select 1
 
@@ -110,6 +110,10 @@ operations =
     ∷ played (7 ∷ 0x83 ∷ 0x80 ∷ 0x28 ∷ 0 ∷ 7 ∷ 0x82 ∷ 0x80 ∷ 0x28 ∷ 1 ∷ [])
     -- 8 show: offsets 1, 3 and 4
     ∷ played (8 ∷ 1 ∷ 8 ∷ 3 ∷ 8 ∷ 4 ∷ [])
+    -- Mode 40, then 20: shows of offsets 3 and 2, then of 2 and 3; Mode 60: offset 3
+    ∷ played (1 ∷ 5 ∷ 2 ∷ 0x40 ∷ 8 ∷ 3 ∷ 8 ∷ 2 ∷ [])
+    ∷ played (1 ∷ 5 ∷ 2 ∷ 0x20 ∷ 8 ∷ 2 ∷ 8 ∷ 3 ∷ [])
+    ∷ played (1 ∷ 5 ∷ 2 ∷ 0x60 ∷ 8 ∷ 3 ∷ [])
     -- a read of A0000, a peek at another place, write mode 1: the latches are those of the read
     ∷ played (5 ∷ 0x80 ∷ 0x80 ∷ 0x28 ∷ 0 ∷ 7 ∷ 0x82 ∷ 0x80 ∷ 0x28 ∷ 1 ∷ 1 ∷ 5 ∷ 2 ∷ 1 ∷ 6 ∷ 0x82 ∷ 0x80 ∷ 0x28 ∷ 0 ∷ 0x7F ∷ [])
     -- write mode 3: byte A5 at A0003
@@ -148,13 +152,18 @@ sceneBytes = 0x10 ∷ 0x11 ∷ 0x12 ∷ 0x13 ∷ 0x20 ∷ 0x21 ∷ 0x22 ∷ 0x23
 scenePixels : List ℕ
 scenePixels = replicate 8 1 ++ (replicate 8 2 ++ (replicate 8 3 ++ replicate 8 4))
 
+-- what a Mode leaves
+inMode : ℕ → List (List ℕ)
+unfolding sceneSeq sceneLatches sceneCounts sceneBytes scenePixels
+inMode mode = (5 ∷ 5 ∷ 9 ∷ 8 ∷ 3 ∷ 1 ∷ 1 ∷ mode ∷ 6 ∷ 7 ∷ 0xFF ∷ []) ∷ sceneSeq ∷ sceneLatches ∷ sceneCounts ∷ sceneBytes ∷ scenePixels ∷ []
+
 -- the lines of a GC address 13 and of a record that breaks; what they leave
 brokenAfter : List ℕ → List (List ℕ)
 unfolding line sceneSeq sceneLatches sceneCounts sceneBytes scenePixels
 brokenAfter last = (line 1 1 0 0 ++ last) ∷ (3 ∷ 3 ∷ 9 ∷ 8 ∷ 3 ∷ 1 ∷ 1 ∷ 4 ∷ 6 ∷ 7 ∷ 0xFF ∷ []) ∷ sceneSeq ∷ sceneLatches ∷ sceneCounts ∷ sceneBytes ∷ scenePixels ∷ []
 
 pub operationsSaid : List (List (List ℕ))
-unfolding line showLine brokenAfter sceneGc sceneSeq sceneLatches sceneCounts sceneBytes scenePixels
+unfolding line showLine digitsLine brokenAfter inMode sceneGc sceneSeq sceneLatches sceneCounts sceneBytes scenePixels
 operationsSaid =
     -- all 0, latches and counters too; Reset selected, divisor 1, character clock 9, no change pending. Memory stays
     (line 1 0 0 0 ∷ replicate 11 0 ∷ (0 ∷ 0 ∷ 0 ∷ 0 ∷ 0 ∷ 0 ∷ 0 ∷ 0 ∷ 1 ∷ 9 ∷ []) ∷ replicate 4 0 ∷ replicate 7 0 ∷ sceneBytes ∷ scenePixels ∷ [])
@@ -178,6 +187,10 @@ operationsSaid =
     ∷ ((line 1 7 0 0x12 ++ line 2 7 0 0x13) ∷ sceneGc ∷ sceneSeq ∷ sceneLatches ∷ sceneCounts ∷ sceneBytes ∷ scenePixels ∷ [])
     -- eight pixels at 8 times the offset; 4 is n
     ∷ ((showLine 1 2 ++ (showLine 2 4 ++ line 3 8 5 0)) ∷ sceneGc ∷ sceneSeq ∷ sceneLatches ∷ sceneCounts ∷ sceneBytes ∷ scenePixels ∷ [])
+    -- 13, 23, 43, 83 and 12, 22, 42, 82 by four bits; 12 and plane 1's next, 23, by two, and 5 at the last offset; the picture again
+    ∷ ((line 1 1 0 0 ++ (line 2 2 0 0 ++ (digitsLine 3 (1 ∷ 3 ∷ 2 ∷ 3 ∷ 4 ∷ 3 ∷ 8 ∷ 3 ∷ []) ++ digitsLine 4 (1 ∷ 2 ∷ 2 ∷ 2 ∷ 4 ∷ 2 ∷ 8 ∷ 2 ∷ [])))) ∷ inMode 0x40)
+    ∷ ((line 1 1 0 0 ++ (line 2 2 0 0 ++ (digitsLine 3 (0 ∷ 1 ∷ 0 ∷ 2 ∷ 0 ∷ 2 ∷ 0 ∷ 3 ∷ []) ++ line 4 8 5 0))) ∷ inMode 0x20)
+    ∷ ((line 1 1 0 0 ++ (line 2 2 0 0 ++ showLine 3 4)) ∷ inMode 0x60)
     -- planes 0, 1 and 3 get 10, 20 and 80 at offset 2
     ∷ ((line 1 5 0 0x20 ++ (line 2 7 0 0x13 ++ (line 3 1 0 0 ++ (line 4 2 0 0 ++ line 5 6 0 0)))) ∷ (5 ∷ 5 ∷ 9 ∷ 8 ∷ 3 ∷ 1 ∷ 1 ∷ 1 ∷ 6 ∷ 7 ∷ 0xFF ∷ []) ∷ sceneSeq
     ∷ (0x10 ∷ 0x20 ∷ 0x40 ∷ 0x80 ∷ []) ∷ (10 ∷ 21 ∷ 30 ∷ 40 ∷ 51 ∷ 60 ∷ 70 ∷ [])

@@ -7,4 +7,5 @@ pub use told::Eight;
 pub use told::Handed;
 pub use told::Told;
 pub use told::of_answer;
+pub use told::of_pixels;
 pub use told::of_store;

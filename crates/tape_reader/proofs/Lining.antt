@@ -11,7 +11,7 @@ use Rattle.tape_reader.proofs.Texts.{put-then, put-room, first-room}
 
 -- what follows the third part, the second, the first
 abbrev rest3 : Said → List ℕ
-rest3 a = valueText (a .value) ++ (10 ∷ [])
+rest3 a = valueText (a .number) (a .value) ++ (10 ∷ [])
 
 abbrev rest2 : Said → List ℕ
 rest2 a = fieldOf (a .number) ++ rest3 a
@@ -43,10 +43,10 @@ module _ (k : ℕ) (o : Operation) (a : Said) (at : ℕ) (l : List ℕ) (h : at 
         all3 : r3 + length (rest3 a) ≤ length m3
         all3 = put-room (rest3 a) p3 all2
 
-        pub room4 : r3 + length (valueText (a .value)) ≤ length m3
-        room4 = first-room r3 (length m3) (valueText (a .value)) (10 ∷ []) all3
+        pub room4 : r3 + length (valueText (a .number) (a .value)) ≤ length m3
+        room4 = first-room r3 (length m3) (valueText (a .number) (a .value)) (10 ∷ []) all3
 
-        module _ {m4 : List ℕ} {r4 : ℕ} (p4 : Put m3 r3 (valueText (a .value)) m4 r4) where
+        module _ {m4 : List ℕ} {r4 : ℕ} (p4 : Put m3 r3 (valueText (a .number) (a .value)) m4 r4) where
           pub room5 : r4 < length m4
           room5 = let j = put-room (10 ∷ []) p4 all3 in omega arith
 

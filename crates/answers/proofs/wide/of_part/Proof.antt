@@ -1,6 +1,6 @@
 -- `of_part` copies eight pixels, or gives zeros: from the test on the length.
 use borrow.Author.Tests.{eq-eqb, ne-eqb}
-use Rattle.answers.proofs.Laws.{eight}
+use Rattle.machine.proofs.Laws.{eight-entries}
 use borrow.Author.Needs.{needs}
 use Rattle.answers.proofs.wide.of_part.Statement.{statement}
 use Rattle.answers.proofs.wide.of_part.Tie as tie
@@ -37,7 +37,7 @@ returns-2 : tie.Need-returns-2
 returns-2 c =
     let else1 : tie.Else1 = search needs in
     let start : tie.Start = search needs in
-    simp (eq-eqb _ _ (else1 .if1 .left), eight (start .args .part .now) (else1 .if1 .left))
+    simp (eq-eqb _ _ (else1 .if1 .left), eight-entries (start .args .part .now) (else1 .if1 .left))
 
 pub of-part-spec : {M : Type 1} → statement M
 of-part-spec =

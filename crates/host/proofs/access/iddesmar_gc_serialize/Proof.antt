@@ -3,6 +3,7 @@ use mathlib.Core.Path.{refl}
 use mathlib.Core.List.{[]}
 use Rattle.machine.specs.Memory.{mem}
 use Rattle.machine.specs.Answers.{said, part}
+use Rattle.answers.specs.Wide.{shownOf}
 use Rattle.host_calls.proofs.Laws.{unknown-of, known-of, cpu-unknown, cpu-asked, shown-of}
 use borrow.Author.Needs.{needs}
 use Rattle.host.proofs.access.iddesmar_gc_serialize.Statement.{statement}
@@ -20,7 +21,7 @@ returns c =
     let start : tie.Start = search needs in
     let a = start .args in
     let m = mem (a .p0 .now) (a .p1 .now) (a .p2 .now) (a .p3 .now) (a .picture .now) in
-    shown-of (said 6 (part [])) _ _ _ (c .unknown-shown .ensures)
+    shown-of shownOf (said 6 (part [])) _ _ _ (c .unknown-shown .ensures)
     (cpu-unknown (a .gc) (a .seq) m (part []) _ (unknown-of (c .before .if1 .taken) (after-known .known .ensures)) _ _ refl refl)
 
 to-controller-requires : tie.Need-to-controller-requires
@@ -44,7 +45,7 @@ returns-2 c =
     let start : tie.Start = search needs in
     let a = start .args in
     let m = mem (a .p0 .now) (a .p1 .now) (a .p2 .now) (a .p3 .now) (a .picture .now) in
-    shown-of _ _ _ _ (c .of-part .ensures) (cpu-asked (a .gc) (a .seq) m (part []) _ (known-of (else1 .if1 .left) (after-known .known .ensures)) _ _
+    shown-of shownOf _ _ _ _ (c .of-part .ensures) (cpu-asked (a .gc) (a .seq) m (part []) _ (known-of (else1 .if1 .left) (after-known .known .ensures)) _ _
     (after-to-controller .to-controller .ensures) (after-to-sequencer .to-sequencer .ensures) _ _ refl (c .before .serialize .ensures))
 
 pub iddesmar-gc-serialize-spec : {M : Type 1} → statement M

@@ -3,6 +3,7 @@ use mathlib.Core.Path.{refl}
 use mathlib.Core.List.{[]}
 use Rattle.machine.specs.Memory.{mem}
 use Rattle.machine.specs.Answers.{said, part}
+use Rattle.answers.specs.Wide.{shownOf}
 use Rattle.host_calls.proofs.Laws.{unknown-of, known-of, direct-unknown, direct-known, shown-of}
 use borrow.Author.Needs.{needs}
 use Rattle.host.proofs.direct.iddesmar_seq_serialize_linear.Statement.{statement}
@@ -20,7 +21,7 @@ returns c =
     let start : tie.Start = search needs in
     let a = start .args in
     let m = mem (a .p0 .now) (a .p1 .now) (a .p2 .now) (a .p3 .now) (a .picture .now) in
-    shown-of (said 6 (part [])) _ _ _ (c .unknown-shown .ensures)
+    shown-of shownOf (said 6 (part [])) _ _ _ (c .unknown-shown .ensures)
     (direct-unknown (a .seq) m (part []) _ (unknown-of (c .before .if1 .taken) (after-known-sequencer .known-sequencer .ensures)) _ refl)
 
 to-sequencer-requires : tie.Need-to-sequencer-requires
@@ -40,7 +41,7 @@ returns-2 c =
     let start : tie.Start = search needs in
     let a = start .args in
     let m = mem (a .p0 .now) (a .p1 .now) (a .p2 .now) (a .p3 .now) (a .picture .now) in
-    shown-of _ _ _ _ (c .of-part .ensures) (direct-known (a .seq) m (part []) _ (known-of (else1 .if1 .left) (after-known-sequencer .known-sequencer .ensures)) _
+    shown-of shownOf _ _ _ _ (c .of-part .ensures) (direct-known (a .seq) m (part []) _ (known-of (else1 .if1 .left) (after-known-sequencer .known-sequencer .ensures)) _
     (after-to-sequencer .to-sequencer .ensures) _ _ _ refl (c .before .serialize-linear .ensures))
 
 pub iddesmar-seq-serialize-linear-spec : {M : Type 1} → statement M

@@ -1,18 +1,7 @@
--- `show` is the machine's step: from `serialize`, whose part is whole or empty.
+-- `show` is the machine's step: from `show_pixels`, its number and pixels as a record's.
+use mathlib.Core.Path.{_≡_, ap, _∙_}
 use borrow.Author.Needs.{needs}
-use Rattle.tape_calls.proofs.Performing.{show-so}
+use Rattle.tape_calls.proofs.Performing.{cpu-so}
 use Rattle.tape_calls.proofs.calls.show.Statement.{statement}
 use Rattle.tape_calls.proofs.calls.show.Tie as tie
 
-serialize-requires : tie.Need-serialize-requires
-serialize-requires c κs = search needs
-
-pixels-requires : tie.Need-pixels-requires
-pixels-requires c κs = search needs
-
-returns : tie.Need-returns
-returns c =
-    show-so _ _ _ _ (c .before .serialize .ensures) (c .pixels .ensures)
-
-pub show-spec : {M : Type 1} → statement M
-show-spec = tie.close (tie.spec serialize-requires pixels-requires returns)

@@ -1,0 +1,78 @@
+-- `judge_pixels` gives refusals 6, 1, 5 in their turn: from the tests passed on the way.
+use mathlib.Core.Path.{sym, ap, _∙_}
+use lib.Dec.{ltb}
+use borrow.Author.Needs.{needs}
+use borrow.Author.Tests.{not-true, not-false}
+use Rattle.machine.specs.Calls.{lastShown, pixelsNumber}
+use Rattle.refusals_access.proofs.show.judge_pixels.Statement.{statement}
+use Rattle.refusals_access.proofs.show.judge_pixels.Tie as tie
+
+fits-both-requires : tie.Need-fits-both-requires
+fits-both-requires c κs = search needs
+
+returns : tie.Need-returns
+unfolding pixelsNumber
+returns c =
+    simp (sym (c .before .fits-both .ensures) ∙ not-true _ (c .if1 .taken))
+
+shaped-requires : tie.Need-shaped-requires
+shaped-requires c κs = search needs
+
+returns-2 : tie.Need-returns-2
+unfolding pixelsNumber
+returns-2 c =
+    let else1 : tie.Else1 = search needs in
+    let after-fits-both : tie.After-fits-both = search needs in
+    simp (sym (after-fits-both .fits-both .ensures) ∙ not-false _ (else1 .if1 .left), sym (c .before .shaped .ensures) ∙ not-true _ (c .if2 .taken))
+
+shift-mode-requires : tie.Need-shift-mode-requires
+shift-mode-requires c κs = search needs
+
+within-planes-requires : tie.Need-within-planes-requires
+within-planes-requires c κs = search needs
+
+returns-3 : tie.Need-returns-3
+unfolding pixelsNumber
+returns-3 c =
+    let after-shift-mode : tie.After-shift-mode = search needs in
+    let else2 : tie.Else2 = search needs in
+    let after-shaped : tie.After-shaped = search needs in
+    let else1 : tie.Else1 = search needs in
+    let after-fits-both : tie.After-fits-both = search needs in
+    let start : tie.Start = search needs in
+    let last = ap (λ d. ltb (lastShown d (start .args .offset .0)) (start .args .shape .p0)) (after-shift-mode .shift-mode .ensures) in
+    simp (
+      sym (after-fits-both .fits-both .ensures) ∙ not-false _ (else1 .if1 .left),
+      sym (after-shaped .shaped .ensures) ∙ not-false _ (else2 .if2 .left),
+      sym (c .before .within-planes .ensures ∙ last) ∙ not-true _ (c .if3 .taken),
+    )
+
+returns-4 : tie.Need-returns-4
+unfolding pixelsNumber
+returns-4 c =
+    let after-within-planes : tie.After-within-planes = search needs in
+    let after-shift-mode : tie.After-shift-mode = search needs in
+    let else2 : tie.Else2 = search needs in
+    let after-shaped : tie.After-shaped = search needs in
+    let else1 : tie.Else1 = search needs in
+    let after-fits-both : tie.After-fits-both = search needs in
+    let start : tie.Start = search needs in
+    let last = ap (λ d. ltb (lastShown d (start .args .offset .0)) (start .args .shape .p0)) (after-shift-mode .shift-mode .ensures) in
+    simp (
+      sym (after-fits-both .fits-both .ensures) ∙ not-false _ (else1 .if1 .left),
+      sym (after-shaped .shaped .ensures) ∙ not-false _ (else2 .if2 .left),
+      sym (after-within-planes .within-planes .ensures ∙ last) ∙ not-false _ (c .if3 .left),
+    )
+
+pub judge-pixels-spec : {M : Type 1} → statement M
+judge-pixels-spec =
+    tie.close
+    (tie.spec
+    fits-both-requires
+    returns
+    shaped-requires
+    returns-2
+    shift-mode-requires
+    within-planes-requires
+    returns-3
+    returns-4)
