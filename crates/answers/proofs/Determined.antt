@@ -34,6 +34,8 @@ use Rattle.answers.proofs.wide.unknown_shown.Reads as unknown-shown
 use Rattle.answers.proofs.wide.unknown_shown.Kinds as unknown-shown-kinds
 use Rattle.answers.proofs.wide.of_part.Reads as of-part
 use Rattle.answers.proofs.wide.of_part.Kinds as of-part-kinds
+use Rattle.answers.proofs.wide.of_shown.Reads as of-shown
+use Rattle.answers.proofs.wide.of_shown.Kinds as of-shown-kinds
 use Rattle.answers.proofs.wide.unknown_stored.Reads as unknown-stored
 use Rattle.answers.proofs.wide.unknown_stored.Kinds as unknown-stored-kinds
 use Rattle.answers.proofs.wide.of_store.Reads as of-store
@@ -104,6 +106,10 @@ module _ (κs : Lfts 0) (a : Dens κs unknown-shown-kinds.ps) where
 module _ (κs : Lfts 1) (a : Dens κs of-part-kinds.ps) where
   pub of-part-determined : OneAnswer (of-part.Post κs a)
   of-part-determined r r′ e e′ p q = p ∙ sym q
+
+module _ (κs : Lfts 0) (a : Dens κs of-shown-kinds.ps) where
+  pub of-shown-determined : OneAnswer (of-shown.Post κs a)
+  of-shown-determined r r′ e e′ p q = p ∙ sym q
 
 module _ (κs : Lfts 0) (a : Dens κs unknown-stored-kinds.ps) where
   pub unknown-stored-determined : OneAnswer (unknown-stored.Post κs a)

@@ -1,11 +1,15 @@
 -- From what each call ensures to what its record does: an outcome of a part of the state, put back into the whole.
 use mathlib.Core.Path.{_≡_, ap}
+use Rattle.machine_types.specs.declared.answer.ShownPixels.{ShownPixels}
 use Rattle.machine_types.specs.declared.gc.GraphicsController.{GraphicsController}
+use Rattle.machine_types.specs.declared.gc.ShiftMode.{ShiftMode}
 use Rattle.machine_types.specs.declared.seq.Sequencer.{Sequencer}
 use Rattle.machine.specs.Memory.{Memory}
-use Rattle.machine.specs.Answers.{one, Said, said, outcome}
+use Rattle.machine.specs.Answers.{one, shown, Said, said, outcome, shownSaid}
 use Rattle.machine.specs.Calls.{SequencerCall, seqReset, GraphicsCall, gcReset, CpuCall}
 use Rattle.machine.specs.Step.{sequencerStep, graphicsStep, Device, cpuStep, state, sequencer, graphics, cpu, lifted, withSeq, withGc, withDevice, step}
+use Rattle.answers.specs.declared.wide.Shown.{Shown}
+use Rattle.answers.specs.Wide.{inNumbers}
 use Rattle.tape_records.specs.declared.records.Command.the-variants.{Reset}
 use Rattle.tape_machine.specs.Performs.{performed}
 
@@ -29,3 +33,7 @@ module _ (g : GraphicsController) (s : Sequencer) (m : Memory) where
   pub cpu-so : (c : CpuCall) {t a : Said} {d : Device} → outcome a d ≡ cpuStep g s m c → t ≡ a → outcome t (state (d .gc) s (d .memory)) ≡ step (state g s m) (cpu c)
   unfolding step
   cpu-so c e f = rw f (ap (lifted (withDevice (state g s m))) e)
+
+-- a show's number and pixels, handed on in numbers, are what it said
+pub shown-so : {t : Said} {d d′ : ShiftMode} {y : Shown} (x : ShownPixels) → t ≡ said (y .number) (shown d (y .pixels)) → y ≡ inNumbers x → d ≡ d′ → t ≡ shownSaid d′ x
+shown-so x e f g = rw (e, f, g)

@@ -1,4 +1,4 @@
--- `value` writes a byte, eight digits or 0: from the arm that was taken.
+-- `value` writes a byte, a show's digits or 0: from the arm that was taken.
 use borrow.Author.Needs.{needs}
 use Rattle.tape_machine.specs.Lines.{valueText}
 use Rattle.tape_reader.proofs.lines.value.Statement.{statement}
@@ -21,9 +21,9 @@ decimal-requires c κs =
 enum-known-handed-2 : tie.Need-enum-known-handed-2
 enum-known-handed-2 c = search needs
 
-eight-digits-requires : tie.Need-eight-digits-requires
+shown-requires : tie.Need-shown-requires
 unfolding valueText
-eight-digits-requires c κs =
+shown-requires c κs =
     let after-handed2 : tie.After-handed2 = search needs in
     let start : tie.Start = search needs in
     let h = start .pre in
@@ -38,16 +38,6 @@ decimal-requires-2 c κs =
     let start : tie.Start = search needs in
     let h = start .pre in
     rw (c .before .enum-told .given .1) at h
-
-enum-told-2 : tie.Need-enum-told-2
-enum-told-2 c = search needs
-
-decimal-requires-3 : tie.Need-decimal-requires-3
-unfolding valueText
-decimal-requires-3 c κs =
-    let start : tie.Start = search needs in
-    let h = start .pre in
-    rw (c .before .enum-told2 .given .1) at h
 
 same-length : tie.Need-same-length
 same-length c = search needs
@@ -65,9 +55,9 @@ same-length-2 c = search needs
 returns-2 : tie.Need-returns-2
 unfolding valueText
 returns-2 c =
-    let after-eight-digits : tie.After-eight-digits = search needs in
+    let after-shown : tie.After-shown = search needs in
     let after-handed2 : tie.After-handed2 = search needs in
-    rw (after-handed2 .handed2 .given .1) (after-eight-digits .eight-digits .ensures)
+    rw (after-handed2 .handed2 .given .1) (after-shown .shown .ensures)
 
 same-length-3 : tie.Need-same-length-3
 same-length-3 c = search needs
@@ -79,16 +69,6 @@ returns-3 c =
     let after-enum-told : tie.After-enum-told = search needs in
     rw (after-enum-told .enum-told .given .1) (after-decimal2 .decimal2 .ensures)
 
-same-length-4 : tie.Need-same-length-4
-same-length-4 c = search needs
-
-returns-4 : tie.Need-returns-4
-unfolding valueText
-returns-4 c =
-    let after-decimal3 : tie.After-decimal3 = search needs in
-    let after-enum-told2 : tie.After-enum-told2 = search needs in
-    rw (after-enum-told2 .enum-told2 .given .1) (after-decimal3 .decimal3 .ensures)
-
 pub value-spec : {M : Type 1} → statement M
 value-spec =
     tie.close
@@ -97,16 +77,12 @@ value-spec =
     cast-decimal
     decimal-requires
     enum-known-handed-2
-    eight-digits-requires
+    shown-requires
     enum-told
     decimal-requires-2
-    enum-told-2
-    decimal-requires-3
     same-length
     returns
     same-length-2
     returns-2
     same-length-3
-    returns-3
-    same-length-4
-    returns-4)
+    returns-3)
