@@ -1,5 +1,5 @@
 -- Demand 3: two runs alike but for plane k stay so. Proved once over deeds and replies, whatever the number of calls.
-use Prim.Native.Nat.{ℕ, zero, suc, _+_, _*_, _-_, _/_, _<_}
+use Prim.Native.Nat.{ℕ, zero, suc, _*_, _-_, _/_, _<_}
 use native.Mathlib.Decide.{decLt, ℕ-discrete}
 use native.Mathlib.Omega.{arith}
 use mathlib.Core.Logic.{_≢_}
@@ -23,7 +23,7 @@ use Rattle.machine.specs.Answers.{Value, blank, Outcome, answered}
 use Rattle.machine.specs.Graphics.{gcOf, readMode, withAddress, withData}
 use Rattle.machine.specs.Address.{offset}
 use Rattle.machine.specs.Deeds.{Deed, rest, load, store, remake, Reply, known, byteAt, compare, pixelAt, pixelsAt, changesAt, shownAt, Plan, byte, latch, loaded, pixelOf, eight}
-use Rattle.machine.specs.Deeds.{remade, storedByte, laid, any, stored, agrees, compared, changedBits, changedAt, nibble, pair, chain4Pixel, cgaPixel, shownIn, latchesAfter, memoryAfter}
+use Rattle.machine.specs.Deeds.{remade, storedByte, laid, any, stored, agrees, compared, changedBits, changedAt, chain4Pixel, cgaPixel, shownIn, latchesAfter, memoryAfter}
 use Rattle.machine.specs.Deeds.{valueOf, perform}
 use Rattle.machine.specs.Calls.{VramCall, readU8, peekU8, readGlyph, readLinear, serializeLinear, writeU8, planeSet, planeAnd, planeOr, deplane, vramPlan}
 use Rattle.machine.specs.Calls.{DirectCall, seqCpuReadU8, seqPeekU8, seqGcReadU8, seqReadLinear, seqSerializeLinear, seqPlaneSet, seqPlaneAnd, seqPlaneOr, directPlan}
@@ -235,8 +235,8 @@ module _ (k : ℕ) where
       shown-alike : (d : ShiftMode) (o : ℕ) → AlikeShow k d (shownIn d m o) (shownIn d n o)
       unfolding shownIn AlikePixel cgaPixel chain4Pixel
       shown-alike Standard o = record { long = both-length (picture-shown o); at = λ j. both-at j 0 (agree-self 0) (picture-shown o) }
-      shown-alike CGACompatible o = record { long = refl; at = eight-at (AlikePixel k CGACompatible) _ _ (λ j ne. refl) λ j ne. ap (pair j) (byte-same m n a (j / 4) (o + j / 4) ne) }
-      shown-alike Chain4 o = record { long = refl; at = eight-at (AlikePixel k Chain4) _ _ (λ j ne. refl) λ j ne. ap (nibble j) (byte-same m n a (j / 2) o ne) }
+      shown-alike CGACompatible o = record { long = refl; at = eight-at (AlikePixel k CGACompatible) (cgaPixel m o) (cgaPixel n o) (λ j ne. refl) λ j ne. rw (a .planes (j / 4) ne) }
+      shown-alike Chain4 o = record { long = refl; at = eight-at (AlikePixel k Chain4) (chain4Pixel m o) (chain4Pixel n o) (λ j ne. refl) λ j ne. rw (a .planes (j / 2) ne) }
       shown-alike Unused o = record { long = both-length (picture-shown o); at = λ j. both-at j 0 (agree-self 0) (picture-shown o) }
 
       value-same : {q r : Reply} → AlikeReply k q r → Silent k q → (b d : Memory) → AlikeMemory k b d → AlikeValue k (valueOf q b l m) (valueOf r d u n)
