@@ -1,7 +1,7 @@
 #!/usr/bin/env python3
-"""Document 01 once more, bit by bit, with write mode 3 as K1 has it, reads under chain-four as K4 has them, stores that tell how many bits changed as K6 asks
-and accesses turned away counted as K8 asks: reads a list of calls on standard input and prints a line for each, as oracle/README.md says. It shares no text with the port;
-oracle/make-cases makes the expected lines of the lists of cases with it.
+"""Document 01 once more, bit by bit, with write mode 3 as K1 has it, the show of every shift mode that K3 asks for, reads under chain-four as K4 has them, stores that
+tell how many bits changed as K6 asks and accesses turned away counted as K8 asks: reads a list of calls on standard input and prints a line for each, as oracle/README.md
+says. It shares no text with the port; oracle/make-cases makes the expected lines of the lists of cases with it.
 
     oracle/model.py < LIST      takes no argument"""
 import re
@@ -23,8 +23,8 @@ CGA, CHAIN4 = 1, 2
 # set, and, or
 STORES = [lambda old, byte: byte, lambda old, byte: old & byte, lambda old, byte: old | byte]
 GC_START, SEQ_START = [0] * 22, [0] * 8 + [1, 9]
-# operations whose value is more than one number: map_address and the stores
-MAP_ADDRESS, PLANE_STORES = 37, (6, 7, 8, 9, 24, 25, 26, 40)
+# what a refused call hands back where that is more than one 0: map_address, the stores, K3's show
+REFUSED_VALUES = {37: "0 0", **dict.fromkeys((6, 7, 8, 9, 24, 25, 26, 40), "0 0 0 0"), 46: "00000000"}
 
 
 class Refused(Exception):
@@ -38,6 +38,10 @@ def refuse_if(condition, number):
 
 def bit(number, i):
     return number >> i & 1
+
+
+def digits(pixels):
+    return "".join(f"{pixel % 16:X}" for pixel in pixels)
 
 
 class Model:
@@ -79,7 +83,7 @@ class Model:
     def serialize_linear(self, offset):
         self.judge_memory()
         refuse_if(offset >= self.lent[0], 5)
-        return "".join(f"{pixel % 16:X}" for pixel in self.memory[4][8 * offset:8 * offset + 8])
+        return digits(self.memory[4][8 * offset:8 * offset + 8])
 
     def remake(self, offset):
         for i in range(8):
@@ -256,6 +260,19 @@ class Model:
         refuse_if(self.shift_mode() in (CGA, CHAIN4), 9)
         return self.serialize_linear(offset)
 
+    def show_pixels(self, offset):
+        """Every shift mode: from the picture, or from planes at the offset as it stands, whatever Memory Mode says."""
+        self.judge_gc()
+        self.judge_seq()
+        self.judge_memory()
+        needed = [offset, offset + 1] if self.shift_mode() == CGA else [offset]
+        refuse_if(any(place >= self.lent[0] for place in needed), 5)
+        if self.shift_mode() == CHAIN4:
+            return digits(half for plane in range(4) for half in divmod(self.read_u8(plane, offset), 16))
+        if self.shift_mode() == CGA:
+            return digits(2 * bit(byte, left) + bit(byte, left - 1) for byte in map(self.read_u8, (0, 1), needed) for left in (7, 5, 3, 1))
+        return self.serialize_linear(offset)
+
     # what no port and no call does
     def put_gc_field(self, field, value):
         if field < 22 and (field != SELECTED or value % 256 <= 8):
@@ -300,12 +317,8 @@ def operations(m):
         (m.map_number, 0), (lambda: bit(m.gc_field(MODE), 4), 0), (m.shift_mode, 0), (partial(m.gc_field, ADDRESS), 0),
         (lambda: m.gc[2 + m.gc_field(SELECTED)], 0), (m.write_gc_address, 1), (m.write_gc_data, 1), (m.map_address, 2), (m.cpu_read, 2),
         (m.cpu_peek, 2), (m.cpu_write, 3), (m.serialize, 1),
-        (m.put_gc_field, 2), (m.put_seq_field, 2), (m.put_byte, 3), (m.put_length, 2),
+        (m.put_gc_field, 2), (m.put_seq_field, 2), (m.put_byte, 3), (m.put_length, 2), (m.show_pixels, 1),
     ]
-
-
-def refused_value(operation):
-    return "0 0" if operation == MAP_ADDRESS else "0 0 0 0" if operation in PLANE_STORES else "0"
 
 
 def line(call, arguments, operation):
@@ -313,7 +326,7 @@ def line(call, arguments, operation):
     try:
         value = call(*arguments) or 0
     except Refused as refused:
-        return f"{refused.args[0]} {refused_value(operation)}"
+        return f"{refused.args[0]} {REFUSED_VALUES.get(operation, '0')}"
     return "0 " + (" ".join(map(str, value)) if isinstance(value, (list, tuple)) else str(value))
 
 

@@ -12,11 +12,18 @@ pub enum Argument {
     Byte,
 }
 
+/// An operation's name and arguments.
+pub type Operation = (&'static str, &'static [Argument]);
+
 macro_rules! operations {
     ($($number:literal $constant:ident $name:literal [$($argument:ident),*])*) => {
         $(pub const $constant: usize = $number;)*
-        /// An operation's name and arguments, at the place of its number.
-        pub const OPERATIONS: [(&str, &[Argument]); 42] = [$(($name, &[$(Argument::$argument),*])),*];
+        /// The operations, each at the place of its number; 42 to 45 set things up in the lists of cases, and are no calls of the Rust.
+        pub const OPERATIONS: [Option<Operation>; 47] = {
+            let mut all: [Option<Operation>; 47] = [None; 47];
+            $(all[$number] = Some(($name, &[$(Argument::$argument),*]));)*
+            all
+        };
     };
 }
 
@@ -63,6 +70,12 @@ operations! {
     39 GC_CPU_PEEK_U8 "graphics_controller::cpu_peek_u8" [Address, Page]
     40 GC_CPU_WRITE_U8 "graphics_controller::cpu_write_u8" [Address, Page, Byte]
     41 GC_SERIALIZE "graphics_controller::serialize" [Offset]
+    46 GC_SHOW_PIXELS "graphics_controller::show_pixels" [Offset]
+}
+
+/// The operation of a number, where the Rust has one.
+pub fn operation(number: usize) -> Option<Operation> {
+    *OPERATIONS.get(number)?
 }
 
 /// A call: an operation's number and its arguments, 0 where it has fewer than four.
@@ -74,14 +87,20 @@ pub struct Call {
 
 impl Call {
     pub fn new(operation: usize, arguments: &[usize]) -> Call {
-        assert_eq!(arguments.len(), OPERATIONS[operation].1.len());
         let mut all = [0; 4];
         all[..arguments.len()].copy_from_slice(arguments);
-        Call { operation, arguments: all }
+        let call = Call { operation, arguments: all };
+        assert_eq!(arguments.len(), call.kinds().len());
+        call
     }
 
     pub fn name(&self) -> &'static str {
-        OPERATIONS[self.operation].0
+        operation(self.operation).expect("an operation").0
+    }
+
+    /// What its arguments stand for.
+    fn kinds(&self) -> &'static [Argument] {
+        operation(self.operation).expect("an operation").1
     }
 
     /// Whether the call stores into planes: its value is a number for each of them.
@@ -91,12 +110,12 @@ impl Call {
 
     /// The arguments that the operation has.
     pub fn given(&self) -> &[usize] {
-        &self.arguments[..OPERATIONS[self.operation].1.len()]
+        &self.arguments[..self.kinds().len()]
     }
 
     /// The argument of a kind, where the operation has one.
     pub fn argument(&self, kind: Argument) -> Option<usize> {
-        let place = OPERATIONS[self.operation].1.iter().position(|a| *a == kind)?;
+        let place = self.kinds().iter().position(|a| *a == kind)?;
         Some(self.arguments[place])
     }
 }

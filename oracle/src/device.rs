@@ -1,7 +1,7 @@
 //! The Rust's graphics controller and sequencer, called by number.
 
 use crate::call::*;
-use crate::{changed, mode_3};
+use crate::{changed, mode_3, shown};
 use marty_core::devices::vga::graphics_controller::GraphicsController;
 use marty_core::devices::vga::sequencer::Sequencer;
 use marty_core::devices::vga::PageSelect;
@@ -74,6 +74,7 @@ impl Device {
             GC_RESET..=GC_WRITE_DATA => (0, self.graphics(call)),
             GC_MAP_ADDRESS..=GC_CPU_WRITE_U8 => self.access(call),
             GC_SERIALIZE => (0, pixels(self.gc.serialize(&self.seq, call.arguments[0]))),
+            GC_SHOW_PIXELS => (0, Value::Pixels(shown::show(&mut self.gc, &mut self.seq, call.arguments[0]))),
             operation => unreachable!("operation {operation} is no call"),
         }
     }

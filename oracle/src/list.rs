@@ -1,6 +1,6 @@
 //! Lists of calls as text: one call a line, `#` starts a comment.
 
-use crate::call::{Argument, Call, OPERATIONS};
+use crate::call::{self, Argument, Call};
 use std::io::Read;
 
 /// Reads a list from a file, or from standard input where the name is `-`.
@@ -36,9 +36,9 @@ fn call(line: &str) -> Result<Option<Call>, String> {
     let Some((&operation, arguments)) = numbers.split_first() else {
         return Ok(None);
     };
-    let kinds = OPERATIONS.get(operation).ok_or("no such operation")?.1;
+    let (name, kinds) = call::operation(operation).ok_or("no such operation")?;
     if arguments.len() != kinds.len() {
-        return Err(format!("{} has {} arguments", OPERATIONS[operation].0, kinds.len()));
+        return Err(format!("{name} has {} arguments", kinds.len()));
     }
     match arguments.iter().zip(kinds).find(|(value, kind)| !fits(**value, **kind)) {
         Some((value, _)) => Err(format!("{value} is out of range")),

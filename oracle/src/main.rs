@@ -12,6 +12,7 @@ mod progress;
 mod random;
 mod refusals;
 mod run;
+mod shown;
 mod shrink;
 
 use std::io::{BufWriter, Write};

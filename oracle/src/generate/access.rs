@@ -42,10 +42,11 @@ impl Generator {
         self.call(operation, &[address, page]);
     }
 
-    /// A show; seldom of an offset past the planes.
+    /// A show, the older or the newer; seldom of an offset past the planes.
     pub fn show(&mut self) {
         let offset = if self.random.chance(5) { self.offset_refused() } else { self.offset() };
-        self.call(GC_SERIALIZE, &[offset]);
+        let operation = self.random.pick(&[GC_SERIALIZE, GC_SHOW_PIXELS]);
+        self.call(operation, &[offset]);
     }
 
     /// One access, the same registers, one address after another.

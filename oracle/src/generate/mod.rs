@@ -21,9 +21,10 @@ pub struct Generator {
     hot: [usize; 12],
     calls: Vec<Call>,
     progress: Progress,
-    /// How far the two sweeps have come.
+    /// How far the three sweeps have come.
     contents: usize,
     combinations: usize,
+    shows: usize,
 }
 
 /// A list; of several from one seed each begins at another part of the sweeps.
@@ -37,8 +38,9 @@ pub fn generate(seed: u64, wanted: usize, part: usize, parts: usize) -> Vec<Call
         progress: Progress::new("generate", wanted),
         contents: sweeps::CONTENTS * part / parts,
         combinations: sweeps::COMBINATIONS * part / parts,
+        shows: sweeps::SHOWS * part / parts,
     };
-    let starts = (generator.contents, generator.combinations);
+    let starts = (generator.contents, generator.combinations, generator.shows);
     while generator.calls.len() < wanted {
         generator.episode();
     }
@@ -57,7 +59,8 @@ impl Generator {
             15..=52 => self.combinations(),
             53..=66 => self.scene(),
             67..=72 => self.ports(),
-            73..=92 => self.direct(),
+            73..=88 => self.direct(),
+            89..=92 => self.shows(),
             93 => self.long_run(),
             94..=96 => self.call(SEQ_RESET, &[]),
             _ => self.call(GC_RESET, &[]),
@@ -76,17 +79,20 @@ impl Generator {
     }
 
     /// How often each operation stands in the list, and how much of the sweeps.
-    fn tell(&self, starts: (usize, usize)) {
+    fn tell(&self, starts: (usize, usize, usize)) {
         let mut counts = [0; OPERATIONS.len()];
         self.calls.iter().for_each(|call| counts[call.operation] += 1);
+        let known = (0..OPERATIONS.len()).filter(|place| OPERATIONS[*place].is_some());
         let swept = |now: usize, start: usize, all: usize| (now - start).min(all);
         eprintln!(
-            "generate: each operation {} times or more, {} of {} register contents, {} of {} combinations",
-            counts.iter().min().unwrap(),
+            "generate: each operation {} times or more, {} of {} register contents, {} of {} combinations, {} of {} shows",
+            known.map(|place| counts[place]).min().unwrap(),
             swept(self.contents, starts.0, sweeps::CONTENTS),
             sweeps::CONTENTS,
             swept(self.combinations, starts.1, sweeps::COMBINATIONS),
             sweeps::COMBINATIONS,
+            swept(self.shows, starts.2, sweeps::SHOWS),
+            sweeps::SHOWS,
         );
     }
 }

@@ -11,6 +11,9 @@ const OFFSETS: [usize; 20] = [
     0xFFFF,
 ];
 
+/// The planes' ends: four offsets of each, so that three of four are no multiple of four.
+pub const ENDS: [usize; 8] = [0, 1, 2, 3, 0xFFFC, 0xFFFD, 0xFFFE, 0xFFFF];
+
 /// Edges of the windows, on both sides.
 const EDGES: [usize; 20] = [
     0x9FFFE, 0x9FFFF, 0xA0000, 0xA0001, 0xA3FFF, 0xA4000, 0xAFFFE, 0xAFFFF, 0xB0000, 0xB0001, 0xB4001, 0xB7FFE,

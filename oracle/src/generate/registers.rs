@@ -5,6 +5,7 @@ use crate::call::*;
 
 // Registers of the graphics controller, by their address.
 pub const DATA_ROTATE: usize = 3;
+pub const MAP_SELECT: usize = 4;
 pub const MODE: usize = 5;
 pub const MISCELLANEOUS: usize = 6;
 pub const BIT_MASK: usize = 8;
