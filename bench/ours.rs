@@ -32,8 +32,13 @@ impl Machine for Ours {
         self.gc.cpu_read_u8(&self.seq, address, PageSelect::LowPage).expect("a read")
     }
 
-    fn show(&mut self, offset: usize) -> u8 {
+    fn older_show(&mut self, offset: usize) -> u8 {
         let pixels = self.gc.serialize(&self.seq, offset).expect("a show");
+        pixels[0] + pixels[7]
+    }
+
+    fn show(&mut self, offset: usize) -> u8 {
+        let pixels = self.gc.show_pixels(&self.seq, offset).expect("a show");
         pixels[0] + pixels[7]
     }
 

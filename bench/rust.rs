@@ -31,6 +31,11 @@ impl Machine for Rust {
         self.gc.cpu_read_u8(&self.seq, address, PageSelect::LowPage)
     }
 
+    /// It has one show, for every shift mode.
+    fn older_show(&mut self, offset: usize) -> u8 {
+        self.show(offset)
+    }
+
     fn show(&mut self, offset: usize) -> u8 {
         let part = self.gc.serialize(&self.seq, offset);
         part[0] + part[7]

@@ -9,7 +9,7 @@
 #ifndef IDDESMAR_H
 #define IDDESMAR_H
 
-#define IDDESMAR_VERSION "0.6.0"
+#define IDDESMAR_VERSION "0.7.0"
 
 #if defined(__has_include)
 #if __has_include(<stdint.h>) && __has_include(<stddef.h>)
@@ -42,9 +42,9 @@ enum {
     IDDESMAR_WINDOW = 2, /* the address is outside the current window, or the map is B0000 */
     IDDESMAR_OFFSET = 3, /* a plane offset is n or more */
     IDDESMAR_PLANE = 4,  /* a plane number is above 3 */
-    IDDESMAR_PLACE = 5,  /* a shown offset is n or more, or a pixel place is 8n or more */
+    IDDESMAR_PLACE = 5,  /* a shown offset, in CGACompatible the one after it too, is n or more, or a pixel place is 8n or more */
     IDDESMAR_STATE = 6,  /* a record holds a value that its registers cannot, or a selected register that there isn't */
-    IDDESMAR_SHIFT = 9   /* a show while the shift mode is Chain4 or CGACompatible */
+    IDDESMAR_SHIFT = 9   /* the older show, iddesmar_gc_serialize, while the shift mode is Chain4 or CGACompatible */
 };
 
 /* The processor's reads and writes: the accepted ones by mode, and those refused with 2 or 3. Each goes back to 0 after 4,294,967,295. */
@@ -112,7 +112,7 @@ typedef struct iddesmar_mapped {
     uint8_t a0; /* 0 or 1 */
 } iddesmar_mapped;
 
-/* The eight pixels of an offset, in bits 0 to 3 of a byte each; eight zeros where refused. */
+/* The eight pixels of an offset, a byte each, the leftmost first; eight zeros where refused. Pixels of the picture come as they stand there: stores leave 0 to 15. */
 typedef struct iddesmar_shown {
     uint8_t pixels[8];
     uint8_t number;
@@ -125,7 +125,8 @@ typedef struct iddesmar_shown {
  * All four 0: the call changed no plane, and if the picture matched the planes before, no pixel either. There is nothing to draw for it.
  * Not so after the host itself wrote into planes or picture: a store that stores any plane remakes the offset's eight pixels whatever its numbers are, and that may
  * change pixels of a picture that did not match. Call iddesmar_vram_deplane for what was written by hand, and draw it, before going by these numbers again.
- * They count bits of planes and not pixels: two planes may change in one pixel, and their sum does not say how many pixels look different.
+ * They count bits of planes and not pixels: two planes may change in one pixel, and their sum does not say how many pixels look different. And they say nothing of
+ * other offsets: in CGACompatible plane 1's byte is shown with the offset before its own, which is to be drawn too.
  * A plane that a reader must not see (plane 3, where it holds price strokes) has a number that the reader must not see either: leave changed[3] out. */
 typedef struct iddesmar_stored {
     uint8_t changed[4];
@@ -179,7 +180,18 @@ iddesmar_answer iddesmar_gc_write_data(iddesmar_gc *gc, uint8_t byte);
 iddesmar_answer iddesmar_gc_cpu_read_u8(iddesmar_gc *gc, iddesmar_seq seq, IDDESMAR_SEEN, size_t address, uint8_t page);
 iddesmar_stored iddesmar_gc_cpu_write_u8(iddesmar_gc *gc, iddesmar_seq seq, IDDESMAR_LENT, size_t address, uint8_t page, uint8_t byte);
 iddesmar_answer iddesmar_gc_cpu_peek_u8(iddesmar_gc gc, iddesmar_seq seq, IDDESMAR_SEEN, size_t address, uint8_t page);
+
+/* The eight pixels of an offset, by the shift mode; it serves all four, and is never refused with 9.
+ *   Standard, Unused  the eight bytes of the picture from 8 * offset on, as they stand
+ *   CGACompatible     pixels[i], i from 0 to 3, is bits 7 - 2 * i and 6 - 2 * i of plane 0's byte at the offset, pixels[4 + i] the same of plane 1's byte at the next
+ *                     offset: 0 to 3. At the last offset, which has no next one, it is refused with 5
+ *   Chain4            pixels[2 * i] and pixels[2 * i + 1] are the high and the low four bits of plane i's byte at the offset: 0 to 15
+ * CGACompatible and Chain4 read planes, never the picture, at the offset as it stands: Memory Mode (chain-four, odd/even), map select, masks and the controller's
+ * odd/even change nothing. No record, counter or memory moves. */
+iddesmar_shown iddesmar_gc_show_pixels(iddesmar_gc gc, iddesmar_seq seq, IDDESMAR_SEEN, size_t offset);
+/* The older show: the same in Standard and Unused; in CGACompatible and Chain4 it is refused with 9. */
 iddesmar_shown iddesmar_gc_serialize(iddesmar_gc gc, iddesmar_seq seq, IDDESMAR_SEEN, size_t offset);
+
 iddesmar_mapped iddesmar_gc_map_address(iddesmar_gc gc, size_t address, uint8_t page);
 iddesmar_answer iddesmar_gc_read_address(iddesmar_gc gc);
 iddesmar_answer iddesmar_gc_read_data(iddesmar_gc gc);

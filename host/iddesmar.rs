@@ -10,8 +10,8 @@
 //! the address leads to). A plane that was not visited, that the mask stopped or that got the byte it had has 0.
 //! For a painter: `[0; 4]` says that no plane changed, and so no pixel, if the picture matched the planes before. A picture that did not match, as after a `Vram::over`
 //! of memory that was written by hand, is remade at its offset by any store that stores a plane, whatever the numbers: `deplane` and draw first, then go by them.
-//! They count bits of planes, and not pixels that look different: two planes may change in one pixel. Who must not see a plane (plane 3, where it holds price strokes)
-//! must not see its number.
+//! They count bits of planes, and not pixels that look different: two planes may change in one pixel. They say nothing of other offsets: in CGACompatible plane 1's
+//! byte is shown with the offset before its own, which is to be drawn too. Who must not see a plane (plane 3, where it holds price strokes) must not see its number.
 //!
 //! A state is saved as the two records (`record`, plain data with public fields, laid out as in C) and the bytes of `Vram`, and comes back by
 //! `GraphicsController::from_record` and `Sequencer::from_record`. Any record may come: where it holds a value that its registers cannot, every call
@@ -31,11 +31,11 @@ pub enum Refusal {
     Offset = 3,
     /// a plane number is above 3
     Plane = 4,
-    /// a shown offset is n or more, or a pixel place is 8n or more
+    /// a shown offset, in CGACompatible the one after it too, is n or more, or a pixel place is 8n or more
     Place = 5,
     /// a record holds a value that its registers cannot
     State = 6,
-    /// a show while the shift mode is Chain4 or CGACompatible
+    /// the older show, `serialize`, while the shift mode is Chain4 or CGACompatible
     Shift = 9,
 }
 
@@ -191,6 +191,12 @@ struct Shown {
     number: u8,
 }
 
+impl Shown {
+    fn pixels(self) -> Result<[u8; 8], Refusal> {
+        judged(self.number, self.pixels)
+    }
+}
+
 /// What a store changed: how many bits of each plane's byte; four zeros where refused.
 #[repr(C)]
 struct Stored {
@@ -247,6 +253,7 @@ calls! {
     fn iddesmar_gc_cpu_read_u8(&mut ControllerRecord, SequencerRecord; Seen, Seen; usize, u8) -> Answer;
     fn iddesmar_gc_cpu_write_u8(&mut ControllerRecord, SequencerRecord; Lent, Lent; usize, u8, u8) -> Stored;
     fn iddesmar_gc_cpu_peek_u8(ControllerRecord, SequencerRecord; Seen, Seen; usize, u8) -> Answer;
+    fn iddesmar_gc_show_pixels(ControllerRecord, SequencerRecord; Seen, Seen; usize) -> Shown;
     fn iddesmar_gc_serialize(ControllerRecord, SequencerRecord; Seen, Seen; usize) -> Shown;
     fn iddesmar_seq_cpu_read_u8(SequencerRecord; Seen, Seen; usize, usize, u8) -> Answer;
     fn iddesmar_seq_peek_u8(SequencerRecord; Seen, Seen; usize, usize, u8) -> Answer;
@@ -386,8 +393,7 @@ impl<B: AsRef<[u8]> + AsMut<[u8]>> Vram<B> {
     }
 
     pub fn serialize_linear(&self, offset: usize) -> Result<[u8; 8], Refusal> {
-        let shown = seen!(iddesmar_vram_serialize_linear(; self; offset));
-        judged(shown.number, shown.pixels)
+        seen!(iddesmar_vram_serialize_linear(; self; offset)).pixels()
     }
 
     pub fn deplane(&mut self, offset: usize) -> Result<(), Refusal> {
@@ -506,8 +512,7 @@ impl<B: AsRef<[u8]> + AsMut<[u8]>> Sequencer<B> {
     }
 
     pub fn serialize_linear(&self, offset: usize) -> Result<[u8; 8], Refusal> {
-        let shown = seen!(iddesmar_seq_serialize_linear(self.record; self.vram; offset));
-        judged(shown.number, shown.pixels)
+        seen!(iddesmar_seq_serialize_linear(self.record; self.vram; offset)).pixels()
     }
 
     /// How many bits of each plane's byte changed; under chain-four at the offset with its low two bits clear.
@@ -614,9 +619,20 @@ impl GraphicsController {
         lent!(iddesmar_gc_cpu_write_u8(&mut self.record, seq.record; seq.vram; address, page_select as u8, byte)).changed()
     }
 
-    /// The eight pixels of a plane offset.
+    /// The eight pixels of a plane offset, the leftmost first, by the shift mode; it serves all four, and is never refused with `Shift`.
+    ///
+    /// - Standard, Unused: the eight bytes of the picture from 8 times the offset on, as they stand; stores leave 0 to 15.
+    /// - CGACompatible: pixel i, 0 to 3, is bits 7 - 2i and 6 - 2i of plane 0's byte at the offset, pixel 4 + i the same of plane 1's byte at the next offset. At the
+    ///   last offset, which has no next one, it is refused with `Place`.
+    /// - Chain4: pixels 2i and 2i + 1 are the high and the low four bits of plane i's byte at the offset.
+    ///
+    /// The last two read planes, never the picture, at the offset as it stands, whatever Memory Mode, map select, masks and odd/even are. Nothing moves.
+    pub fn show_pixels<B: AsRef<[u8]> + AsMut<[u8]>>(&self, seq: &Sequencer<B>, offset: usize) -> Result<[u8; 8], Refusal> {
+        seen!(iddesmar_gc_show_pixels(self.record, seq.record; seq.vram; offset)).pixels()
+    }
+
+    /// The older show: the same in Standard and Unused; in CGACompatible and Chain4 it is refused with `Shift`.
     pub fn serialize<B: AsRef<[u8]> + AsMut<[u8]>>(&self, seq: &Sequencer<B>, offset: usize) -> Result<[u8; 8], Refusal> {
-        let shown = seen!(iddesmar_gc_serialize(self.record, seq.record; seq.vram; offset));
-        judged(shown.number, shown.pixels)
+        seen!(iddesmar_gc_serialize(self.record, seq.record; seq.vram; offset)).pixels()
     }
 }

@@ -1,5 +1,5 @@
 /* A host in C: runs the list of calls on standard input as `replay` does, and prints the same lines. `test layout` tries the records' layout instead.
- * What each store says that it changed is held to a count made here, from the lent planes before and after it.
+ * What each store says that it changed is held to a count made here, from the lent planes before and after it, and what `show_pixels` shows to pixels unpacked here.
  * The kit's compiler has no C headers, so what is used of the C library is declared here. */
 #include "iddesmar.h"
 
@@ -47,14 +47,17 @@ static void moved(iddesmar_seq_answer a) {
     answered(a.answer);
 }
 
-static void shown(iddesmar_shown s) {
-    if (s.number != 0) {
-        value(s.number, 0);
-        return;
-    }
-    printf(" 0 ");
+/* Eight digits, refused or not, as they came back. */
+static void pixels_shown(iddesmar_shown s) {
+    printf(" %u ", s.number);
     for (int i = 0; i < 8; i++) putchar("0123456789ABCDEF"[s.pixels[i] % 16]);
     putchar('\n');
+}
+
+/* Of the older shows a refused one has one 0. */
+static void shown(iddesmar_shown s) {
+    if (s.number != IDDESMAR_DONE) value(s.number, 0);
+    else pixels_shown(s);
 }
 
 static void stored(iddesmar_stored s) {
@@ -151,6 +154,41 @@ static iddesmar_stored cpu_write(iddesmar_gc *g, iddesmar_seq s, size_t address,
     return counted(iddesmar_gc_cpu_write_u8(g, s, ALL, address, page, byte), before);
 }
 
+/* The shift mode, bits 5 and 6 of Mode. */
+enum { STANDARD, CGA, CHAIN4, UNUSED };
+
+static unsigned shift_mode(iddesmar_gc g) {
+    return g.mode / 32 % 4;
+}
+
+static unsigned bit(uint8_t byte, int i) {
+    return byte >> i & 1;
+}
+
+/* A pixel of an offset by the shift mode: half a plane's byte, two bits of one, or a byte of the picture. */
+static unsigned unpacked(const iddesmar_memory *m, unsigned mode, size_t offset, int i) {
+    if (mode == CHAIN4) {
+        uint8_t byte = m->planes[i / 2][offset];
+        return i % 2 ? byte % 16 : byte / 16;
+    }
+    if (mode == CGA) {
+        int left = 7 - 2 * (i % 4);
+        uint8_t byte = i < 4 ? m->planes[0][offset] : m->planes[1][offset + 1];
+        return 2 * bit(byte, left) + bit(byte, left - 1);
+    }
+    return m->picture[8 * offset + (size_t)i];
+}
+
+/* show_pixels on records and memory that are as they should be: 5 past the planes, in CGACompatible also at their last offset, and eight zeros then; else what is unpacked here. */
+static iddesmar_shown show(iddesmar_gc g, iddesmar_seq s, const iddesmar_memory *m, size_t offset) {
+    unsigned mode = shift_mode(g);
+    int past = offset >= (mode == CGA ? m->n - 1 : m->n);
+    iddesmar_shown is = iddesmar_gc_show_pixels(g, s, IDDESMAR_ALL(m), offset);
+    expect("a show's number", is.number, past ? IDDESMAR_PLACE : IDDESMAR_DONE);
+    for (int i = 0; i < 8; i++) expect("a pixel shown", is.pixels[i], past ? 0 : unpacked(m, mode, offset, i));
+    return is;
+}
+
 static void vram_call(u64 operation, const u64 *x) {
     switch (operation) {
     case 1: answered(iddesmar_vram_read_u8(ALL, x[0], x[1])); break;
@@ -202,7 +240,9 @@ static void controller_call(u64 operation, const u64 *x) {
     case 38: answered(iddesmar_gc_cpu_read_u8(&gc, seq, ALL, x[0], x[1] != 0)); break;
     case 39: answered(iddesmar_gc_cpu_peek_u8(gc, seq, ALL, x[0], x[1] != 0)); break;
     case 40: stored(cpu_write(&gc, seq, x[0], x[1] != 0, (uint8_t)x[2])); break;
-    default: shown(iddesmar_gc_serialize(gc, seq, ALL, x[0])); break;
+    case 41: shown(iddesmar_gc_serialize(gc, seq, ALL, x[0])); break;
+    case 46: pixels_shown(show(gc, seq, &memory, x[0])); break;
+    default: printf(" unknown\n"); break; /* 42 to 45 set up what no port reaches, and no host has them */
     }
 }
 
@@ -391,6 +431,104 @@ static void cpu_numbers(void) {
     }
 }
 
+/* ---- what show_pixels answers comes back by value: eight pixels, then the answer's number */
+
+static const uint8_t no_pixels[8] = {0, 0, 0, 0, 0, 0, 0, 0};
+
+static void show_answers(const char *what, iddesmar_shown s, unsigned number, const uint8_t *pixels) {
+    same(what, &s, pixels, 8);
+    expect(what, ((const uint8_t *)&s)[8], number);
+}
+
+static iddesmar_gc in_mode(iddesmar_gc g, unsigned mode) {
+    g.mode = (uint8_t)((g.mode & 0x9F) + 32 * mode);
+    return g;
+}
+
+/* Planes 12 34 56 78 at offset 0, 1B in plane 1 at 1; the picture is made by the stores. */
+static void worked_planes(void) {
+    for (size_t p = 0; p < 4; p++) vram_store(7, p, 0, (uint8_t)(0x12 + 0x22 * p));
+    vram_store(7, 1, 1, 0x1B);
+}
+
+/* Their shows by shift mode, which hang on no other bit of either record; the older show has the standard ones. */
+static void worked_shows(iddesmar_gc g, iddesmar_seq s) {
+    static const uint8_t pixels[4][8] = {
+        {0, 12, 10, 15, 8, 6, 5, 0}, /* Standard */
+        {0, 1, 0, 2, 0, 1, 2, 3},    /* CGACompatible */
+        {1, 2, 3, 4, 5, 6, 7, 8},    /* Chain4 */
+        {0, 12, 10, 15, 8, 6, 5, 0}, /* Unused */
+    };
+    for (unsigned mode = STANDARD; mode <= UNUSED; mode++) {
+        int standard = mode == STANDARD || mode == UNUSED;
+        g = in_mode(g, mode);
+        show_answers("the worked example", show(g, s, &memory, 0), IDDESMAR_DONE, pixels[mode]);
+        show_answers("its older show", iddesmar_gc_serialize(g, s, ALL, 0), standard ? IDDESMAR_DONE : IDDESMAR_SHIFT, standard ? pixels[mode] : no_pixels);
+        expect("a show of the last offset but one", show(g, s, &memory, N - 2).number, IDDESMAR_DONE);
+        expect("a show of the last offset", show(g, s, &memory, N - 1).number, mode == CGA ? IDDESMAR_PLACE : IDDESMAR_DONE);
+        show_answers("a show past the planes", show(g, s, &memory, N), IDDESMAR_PLACE, no_pixels);
+    }
+}
+
+/* .. not on Memory Mode: sequential, with chain-four, odd/even, both. */
+static void worked_example(void) {
+    static const uint8_t memory_modes[4] = {0x04, 0x0C, 0x00, 0x08};
+    iddesmar_seq s = iddesmar_seq_new();
+    worked_planes();
+    for (int i = 0; i < 4; i++) {
+        s.memory_mode = memory_modes[i];
+        worked_shows(iddesmar_gc_new(), s);
+    }
+}
+
+/* Memory of its own, small enough to be looked at whole. The picture matches no plane, and has bytes above 15. */
+typedef struct card {
+    uint8_t planes[4][16], picture[8 * 16];
+} card;
+
+static iddesmar_memory lent_by(card *c, size_t n) {
+    iddesmar_memory m = {{c->planes[0], c->planes[1], c->planes[2], c->planes[3]}, c->picture, n};
+    return m;
+}
+
+/* Every offset of the planes, and some past them: nothing wraps, also where 8 times the offset does. How many were shown. */
+static unsigned shows_of(const iddesmar_memory *m, iddesmar_gc g, iddesmar_seq s) {
+    static const size_t past[] = {65536, (size_t)1 << 32, (size_t)1 << 61, ((size_t)1 << 61) + 1, (size_t)1 << 63, (size_t)-16, (size_t)-2, (size_t)-1};
+    unsigned count = 0;
+    for (size_t offset = 0; offset <= m->n; offset++) count += show(g, s, m, offset).number == IDDESMAR_DONE;
+    for (size_t i = 0; i < sizeof past / sizeof *past; i++) show_answers("a show far past the planes", show(g, s, m, past[i]), IDDESMAR_PLACE, no_pixels);
+    return count;
+}
+
+/* Each offset is shown, in CGACompatible each but the last: with a plane of one byte none. Neither the records nor the memory moves. */
+static void shows_of_lengths(iddesmar_gc g, iddesmar_seq s, card c) {
+    static const size_t lengths[] = {1, 2, 8, 16};
+    const iddesmar_gc given = g;
+    const iddesmar_seq given_seq = s;
+    card lent = c;
+    for (size_t i = 0; i < sizeof lengths / sizeof *lengths; i++) {
+        iddesmar_memory m = lent_by(&lent, lengths[i]);
+        expect("the offsets shown", shows_of(&m, g, s), lengths[i] - (shift_mode(g) == CGA));
+    }
+    same("the controller's record after shows", &g, &given, sizeof g);
+    same("the sequencer's record after shows", &s, &given_seq, sizeof s);
+    same("memory after shows", &lent, &c, sizeof c);
+}
+
+/* A byte of the picture above 15 comes back whole, though a line has its low four bits alone. */
+static void whole_bytes(void) {
+    static const uint8_t bytes[8] = {0x10, 0x2F, 0x80, 0xFF, 0x7E, 0xA5, 0x0F, 0xC3};
+    iddesmar_gc g = iddesmar_gc_new();
+    iddesmar_seq s = iddesmar_seq_new();
+    card c = {{{0}}, {0}};
+    iddesmar_memory m = lent_by(&c, 16);
+    for (int i = 0; i < 8; i++) c.picture[8 * 7 + i] = bytes[i];
+    show_answers("a show of bytes above 15", show(in_mode(g, STANDARD), s, &m, 7), IDDESMAR_DONE, bytes);
+    show_answers("a show of bytes above 15", show(in_mode(g, UNUSED), s, &m, 7), IDDESMAR_DONE, bytes);
+    show_answers("a show of planes beside them", show(in_mode(g, CHAIN4), s, &m, 7), IDDESMAR_DONE, no_pixels);
+    show_answers("a show of planes beside them", show(in_mode(g, CGA), s, &m, 7), IDDESMAR_DONE, no_pixels);
+}
+
 /* A number that selects no register is refusal 6 and changes nothing; a reset takes it. */
 static void unknown_registers(void) {
     gc = iddesmar_gc_new();
@@ -401,7 +539,8 @@ static void unknown_registers(void) {
     store_answers("a write outside the window with register 9", cpu_write(&gc, seq, 0x9FFFF, 0, 5), IDDESMAR_STATE, nothing);
     expect("a read outside the window with register 9", iddesmar_gc_cpu_read_u8(&gc, seq, ALL, 0x9FFFF, 0).number, IDDESMAR_STATE);
     expect("refused_accesses with register 9", gc.stats.refused_accesses, 0);
-    expect("a show with register 9", iddesmar_gc_serialize(gc, seq, ALL, 0).number, IDDESMAR_STATE);
+    expect("an older show with register 9", iddesmar_gc_serialize(gc, seq, ALL, 0).number, IDDESMAR_STATE);
+    show_answers("a show with register 9", iddesmar_gc_show_pixels(gc, seq, ALL, 0), IDDESMAR_STATE, no_pixels);
     expect("register_selected", gc.register_selected, 9);
     expect("reset of register 9", iddesmar_gc_reset(&gc).number, IDDESMAR_DONE);
     expect("register_selected after reset", gc.register_selected, 0);
@@ -409,6 +548,7 @@ static void unknown_registers(void) {
     expect("clock with register 6", iddesmar_seq_clock(seq).number, IDDESMAR_STATE);
     expect("a read with register 6", iddesmar_gc_cpu_read_u8(&gc, seq, ALL, 0xA0000, 0).number, IDDESMAR_STATE);
     store_answers("a write with register 6", cpu_write(&gc, seq, 0xA0000, 0, 5), IDDESMAR_STATE, nothing);
+    show_answers("a show with register 6", iddesmar_gc_show_pixels(gc, seq, ALL, 0), IDDESMAR_STATE, no_pixels);
     expect("reset of register 6", iddesmar_seq_reset(seq).answer.number, IDDESMAR_DONE);
 }
 
@@ -501,12 +641,58 @@ static void stores_refused(unsigned number, iddesmar_seq s, iddesmar_memory m, s
     seq_stores_refused(number, s, m, shorter, plane, offset);
 }
 
+/* Both shows in each shift mode; the older one has 9 before 5. */
+static void shows_refused(unsigned number, iddesmar_gc g, iddesmar_seq s, iddesmar_memory m, size_t shorter, size_t offset) {
+    for (unsigned mode = STANDARD; mode <= UNUSED; mode++) {
+        unsigned older = number == IDDESMAR_PLACE && (mode == CGA || mode == CHAIN4) ? IDDESMAR_SHIFT : number;
+        g = in_mode(g, mode);
+        show_answers("a refused show", iddesmar_gc_show_pixels(g, s, LENT(m, shorter), offset), number, no_pixels);
+        show_answers("a refused older show", iddesmar_gc_serialize(g, s, LENT(m, shorter), offset), older, no_pixels);
+    }
+}
+
+/* A field that keeps less than a byte, and the most that it may hold. */
+typedef struct kept {
+    size_t place;
+    uint8_t most;
+} kept;
+
+/* 6 looks at both records whole: with one more in any of these fields no show is made, with the most that it may hold each is. */
+static void shows_judge_records(iddesmar_gc g, iddesmar_seq s) {
+    static const kept of_gc[] = {
+        {offsetof(iddesmar_gc, register_select_byte), 15}, {offsetof(iddesmar_gc, register_selected), 8}, {offsetof(iddesmar_gc, set_reset), 15},
+        {offsetof(iddesmar_gc, enable_set_reset), 15}, {offsetof(iddesmar_gc, color_compare), 15}, {offsetof(iddesmar_gc, read_map_select), 3},
+        {offsetof(iddesmar_gc, color_dont_care), 15},
+    };
+    static const kept of_seq[] = {
+        {offsetof(iddesmar_seq, register_selected), 5}, {offsetof(iddesmar_seq, reset), 3}, {offsetof(iddesmar_seq, clocking_mode), 63},
+        {offsetof(iddesmar_seq, map_mask), 15}, {offsetof(iddesmar_seq, character_map_select), 63}, {offsetof(iddesmar_seq, memory_mode), 63},
+    };
+    for (size_t i = 0; i < sizeof of_gc / sizeof *of_gc; i++) {
+        iddesmar_gc bad = g;
+        uint8_t *field = (uint8_t *)&bad + of_gc[i].place;
+        *field = of_gc[i].most;
+        expect("a show with a full field of the controller", show(bad, s, &memory, 0).number, IDDESMAR_DONE);
+        *field += 1;
+        shows_refused(IDDESMAR_STATE, bad, s, memory, 0, 0);
+    }
+    for (size_t i = 0; i < sizeof of_seq / sizeof *of_seq; i++) {
+        iddesmar_seq bad = s;
+        uint8_t *field = (uint8_t *)&bad + of_seq[i].place;
+        *field = of_seq[i].most;
+        expect("a show with a full field of the sequencer", show(g, bad, &memory, 0).number, IDDESMAR_DONE);
+        *field += 1;
+        shows_refused(IDDESMAR_STATE, g, bad, memory, 0, 0);
+    }
+}
+
 static void gc_unfit(iddesmar_gc given, iddesmar_seq s) {
     iddesmar_gc left = given;
     gc_refused("a refused write_address", iddesmar_gc_write_address(&left, 7), IDDESMAR_STATE, &left, given);
     gc_refused("a refused write_data", iddesmar_gc_write_data(&left, 7), IDDESMAR_STATE, &left, given);
     accesses_refused(IDDESMAR_STATE, given, s, memory, 0, 0xA0000);
     accesses_refused(IDDESMAR_STATE, given, s, memory, 0, 0x9FFFF);
+    shows_refused(IDDESMAR_STATE, given, s, memory, 1, N); /* before 1 and 5 */
 }
 
 static void seq_unfit(iddesmar_seq given) {
@@ -517,6 +703,7 @@ static void seq_unfit(iddesmar_seq given) {
     accesses_refused(IDDESMAR_STATE, fitting_gc(given.clock_change_pending), given, memory, 0, 0xA0000);
     accesses_refused(IDDESMAR_STATE, fitting_gc(given.clock_change_pending), given, memory, 0, 0x9FFFF);
     seq_stores_refused(IDDESMAR_STATE, given, memory, 0, 0, 0);
+    shows_refused(IDDESMAR_STATE, fitting_gc(given.clock_change_pending), given, memory, 1, N);
 }
 
 static void refusals(int seed) {
@@ -545,6 +732,30 @@ static void refusals(int seed) {
     stores_refused(IDDESMAR_OFFSET, s, small, 0, (size_t)seed % 4, 16);
     g.stats.refused_accesses = 0xFFFFFFFFu;
     accesses_refused(IDDESMAR_WINDOW, g, s, memory, 0, 0xB0000);
+}
+
+/* 1 looks at all five parts: one byte too few in any of them, and no show is made. */
+static void shows_of_short_parts(iddesmar_gc g, iddesmar_seq s) {
+    for (int part = 0; part < 5; part++) {
+        size_t n[5] = {N, N, N, N, 8 * N};
+        n[part]--;
+        iddesmar_shown is = iddesmar_gc_show_pixels(g, s, planes[0], n[0], planes[1], n[1], planes[2], n[2], planes[3], n[3], picture, n[4], 0);
+        show_answers("a show of a part that is too short", is, IDDESMAR_MEMORY, no_pixels);
+    }
+}
+
+static void refused_shows(int seed) {
+    iddesmar_memory small = memory, empty = memory;
+    iddesmar_gc g = fitting_gc(seed);
+    iddesmar_seq s = fitting_seq(seed);
+    small.n = 16;
+    empty.n = 0;
+    shows_judge_records(g, s);
+    shows_of_short_parts(g, s);
+    shows_refused(IDDESMAR_MEMORY, g, s, empty, 0, 0);
+    shows_refused(IDDESMAR_MEMORY, g, s, memory, 1, 0);
+    shows_refused(IDDESMAR_MEMORY, g, s, memory, 1, N); /* before 5 */
+    shows_refused(IDDESMAR_PLACE, g, s, small, 0, 16);
 }
 
 /* ---- accepted calls: the spare byte stays, and the mark is 0 or 1 */
@@ -594,6 +805,17 @@ static unsigned writes_again(int seed) {
         store_answers("a write made again", cpu_write(&g, s, address, 1, byte), IDDESMAR_DONE, nothing);
     }
     return bits;
+}
+
+/* The worked example over records of every kind, and memory of every kind in each shift mode. */
+static void shows(int seed) {
+    iddesmar_gc g = fitting_gc(seed);
+    iddesmar_seq s = fitting_seq(seed);
+    card c;
+    fill(&c, sizeof c, seed);
+    worked_planes();
+    worked_shows(g, s);
+    for (unsigned mode = STANDARD; mode <= UNUSED; mode++) shows_of_lengths(in_mode(g, mode), s, c);
 }
 
 /* ---- flags: 0 is clear, any other number set */
@@ -652,15 +874,22 @@ static int layout(void) {
     }
     chained_numbers();
     cpu_numbers();
+    worked_example();
+    whole_bytes();
     for (int seed = 0; seed < 256; seed++) {
         refusals(seed);
+        refused_shows(seed);
         acceptances(seed);
         bits += writes_again(seed);
+        shows(seed);
         store_flag(seed);
         page_flag(seed);
     }
     expect("whether any write changed a bit", bits != 0, 1);
-    if (!wrong) printf("layout: the library has each field where C has it, a refused call leaves every byte but the count of accesses turned away, and a store tells the bits it changed\n");
+    if (!wrong) {
+        printf("layout: the library has each field where C has it, a refused call leaves every byte but the count of accesses turned away, ");
+        printf("a store tells the bits it changed, and a show has the pixels unpacked here\n");
+    }
     return wrong != 0;
 }
 

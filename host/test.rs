@@ -1,5 +1,5 @@
 //! A host in Rust, by the safe calls of iddesmar.rs alone: runs the list of calls on standard input as `replay` does, and prints the same lines.
-//! What each store says that it changed is held to a count made here, from the planes before and after it.
+//! What each store says that it changed is held to a count made here, from the planes before and after it, and what `show_pixels` shows to pixels unpacked here.
 //! It starts without Rust's own start, which the kit's emulator cannot carry out.
 #![no_main]
 #![deny(unsafe_code)]
@@ -8,6 +8,7 @@
 mod iddesmar;
 
 use iddesmar::{GraphicsController, PageSelect, Refusal, Sequencer, Vram};
+use std::array::from_fn;
 use std::io::{BufRead, BufWriter, Write};
 
 /// Both, over memory that the host lends.
@@ -16,6 +17,8 @@ struct Host<'a> {
     seq: Sequencer<&'a mut [u8]>,
     /// Stores that told other numbers than are counted here.
     miscounted: usize,
+    /// Shows that had other pixels than are unpacked here.
+    misshown: usize,
 }
 
 fn value<T: Into<u64>>(answer: Result<T, Refusal>) -> String {
@@ -29,11 +32,20 @@ fn done(answer: Result<(), Refusal>) -> String {
     value(answer.map(|()| 0u8))
 }
 
+fn digits(pixels: [u8; 8]) -> String {
+    pixels.iter().map(|pixel| format!("{:X}", pixel % 16)).collect()
+}
+
+/// Of the older shows a refused one has one 0.
 fn shown(answer: Result<[u8; 8], Refusal>) -> String {
     match answer {
-        Ok(pixels) => format!("0 {}", pixels.iter().map(|pixel| format!("{:X}", pixel % 16)).collect::<String>()),
+        Ok(pixels) => format!("0 {}", digits(pixels)),
         Err(refusal) => format!("{} 0", refusal.number()),
     }
+}
+
+fn pixels_shown(answer: Result<[u8; 8], Refusal>) -> String {
+    format!("{} {}", answer.map_or_else(Refusal::number, |_| 0), digits(answer.unwrap_or([0; 8])))
 }
 
 fn stored(answer: Result<[u8; 4], Refusal>) -> String {
@@ -69,6 +81,22 @@ fn tells(answer: Result<[u8; 4], Refusal>, before: [u8; 4], after: [u8; 4]) -> b
     match answer {
         Ok(changed) => (0..4).all(|plane| u32::from(changed[plane]) == (before[plane] ^ after[plane]).count_ones()),
         Err(_) => before == after,
+    }
+}
+
+/// What `show_pixels` is to answer, where records and lengths are as they should be: half bytes of four planes, pairs of bits of two, or bytes of the picture.
+fn unpacked<B: AsRef<[u8]> + AsMut<[u8]>>(gc: &GraphicsController, vram: &Vram<B>, offset: usize) -> Result<[u8; 8], Refusal> {
+    let byte = |plane: usize, at: usize| vram.plane(plane)?.get(at).copied().ok_or(Refusal::Place);
+    match gc.record().mode / 32 % 4 {
+        1 => {
+            let bytes = [byte(0, offset)?, byte(1, offset.saturating_add(1))?];
+            Ok(from_fn(|i| bytes[i / 4] / [64, 16, 4, 1][i % 4] % 4))
+        }
+        2 => {
+            let bytes = [byte(0, offset)?, byte(1, offset)?, byte(2, offset)?, byte(3, offset)?];
+            Ok(from_fn(|i| bytes[i / 2] / [16, 1][i % 2] % 16))
+        }
+        _ => vram.picture().chunks(8).nth(offset).and_then(|part| part.try_into().ok()).ok_or(Refusal::Place),
     }
 }
 
@@ -144,7 +172,8 @@ impl Host<'_> {
             37 => mapped(gc.map_address(x[0], page(x[1]))),
             38 => value(gc.cpu_read_u8(seq, x[0], page(x[1]))),
             39 => value(gc.cpu_peek_u8(seq, x[0], page(x[1]))),
-            _ => shown(gc.serialize(seq, x[0])),
+            41 => shown(gc.serialize(seq, x[0])),
+            _ => "unknown".to_string(), // 42 to 45 set up what no port reaches, and no host has them
         }
     }
 
@@ -179,15 +208,33 @@ impl Host<'_> {
         stored(answer)
     }
 
+    fn show_call(&mut self, offset: usize) -> String {
+        let answer = self.gc.show_pixels(&self.seq, offset);
+        self.misshown += usize::from(answer != unpacked(&self.gc, &self.seq.vram, offset));
+        pixels_shown(answer)
+    }
+
     fn call(&mut self, operation: usize, x: &[usize; 4]) -> String {
         match operation {
             0 => self.digest(),
             6..=9 | 24..=26 | 40 => self.store_call(operation, x),
+            46 => self.show_call(x[0]),
             1..=10 => self.vram_call(operation, x),
             11..=26 => self.sequencer_call(operation, x),
             _ => self.controller_call(operation, x),
         }
     }
+}
+
+/// The controller with each of the four shift modes, and the other bits of Mode as they are.
+fn in_every_mode(gc: &GraphicsController, holds: impl Fn(&GraphicsController) -> bool) -> bool {
+    let record = *gc.record();
+    (0..4).all(|shift| holds(&GraphicsController::from_record(iddesmar::ControllerRecord { mode: (record.mode & 0x9F) + 32 * shift, ..record })))
+}
+
+/// This refusal comes before 5: no show is made in any shift mode, wherever it is to be.
+fn shows_nothing<B: AsRef<[u8]> + AsMut<[u8]>>(gc: &GraphicsController, seq: &Sequencer<B>, refusal: Refusal) -> bool {
+    in_every_mode(gc, |gc| [0, 65536, usize::MAX].into_iter().all(|offset| gc.show_pixels(seq, offset) == Err(refusal)))
 }
 
 /// Memory of wrong lengths is refused, whichever slice is wrong, and so is an offset outside: nothing is read beyond.
@@ -202,6 +249,7 @@ fn refusals() -> bool {
         gc.cpu_write_u8(&mut seq, 0xA0000, PageSelect::LowPage, 1) == Err(Refusal::Memory)
             && gc.cpu_read_u8(&seq, 0xA0000, PageSelect::LowPage) == Err(Refusal::Memory)
             && gc.serialize(&seq, 0) == Err(Refusal::Memory)
+            && shows_nothing(&gc, &seq, Refusal::Memory)
             && seq.plane_set(0, usize::MAX, false, 1) == Err(Refusal::Memory)
             && seq.vram.write_u8(0, 0, 1) == Err(Refusal::Memory)
             && seq.vram.read_u8(usize::MAX, usize::MAX) == Err(Refusal::Memory)
@@ -219,7 +267,8 @@ fn turned_away() -> bool {
         && gc.cpu_read_u8(&seq, 0xA0010, low) == Err(Refusal::Offset)
         && gc.cpu_write_u8(&mut seq, 0xA0010, low, 1) == Err(Refusal::Offset)
         && gc.cpu_peek_u8(&seq, 0x9FFFF, low) == Err(Refusal::Window)
-        && gc.serialize(&seq, 16) == Err(Refusal::Place);
+        && gc.serialize(&seq, 16) == Err(Refusal::Place)
+        && in_every_mode(&gc, |gc| gc.show_pixels(&seq, 16) == Err(Refusal::Place));
     let counted = gc.record().stats.refused_accesses == 4 && iddesmar::GraphicsControllerStats { refused_accesses: 0, ..gc.record().stats } == fresh.stats;
     gc.reset();
     refused && counted && *gc.record() == fresh
@@ -244,10 +293,62 @@ fn bits_told() -> bool {
     open && whole && direct == [true; 8] && cleared() == Ok([1, 2, 4, 7]) && cleared() == Ok([0; 4])
 }
 
+/// Planes 12 34 56 78 at offset 0, 1B in plane 1 at 1: their shows by shift mode, whatever Memory Mode is. The older show has the standard ones, and CGACompatible no last offset.
+fn worked_shows() -> bool {
+    let (gc, mut seq) = (GraphicsController::new(), Sequencer::new());
+    let bytes = [(0, 0, 0x12), (1, 0, 0x34), (2, 0, 0x56), (3, 0, 0x78), (1, 1, 0x1B)];
+    let laid = bytes.into_iter().all(|(plane, offset, byte)| seq.vram.write_u8(plane, offset, byte).is_ok());
+    let standard = [0, 12, 10, 15, 8, 6, 5, 0];
+    let right = [standard, [0, 1, 0, 2, 0, 1, 2, 3], [1, 2, 3, 4, 5, 6, 7, 8], standard];
+    let shows = [4, 0x0C, 0, 8].into_iter().all(|memory_mode| {
+        let set = seq.write_address(4).is_ok() && seq.write_data(memory_mode).is_ok();
+        set && in_every_mode(&gc, |gc| {
+            let shift = usize::from(gc.record().mode >> 5);
+            gc.show_pixels(&seq, 0) == Ok(right[shift])
+                && gc.serialize(&seq, 0) == if right[shift] == standard { Ok(standard) } else { Err(Refusal::Shift) }
+                && gc.show_pixels(&seq, 65535) == if shift == 1 { Err(Refusal::Place) } else { Ok([0; 8]) }
+        })
+    });
+    laid && shows
+}
+
+/// A state of every kind over planes of n bytes: registers hold no more than they keep, the picture matches no plane and has bytes above 15.
+fn of_every_kind(seed: usize, n: usize) -> (GraphicsController, Sequencer) {
+    let byte = |i: usize, most: u8| (seed + 91 * i) as u8 & most;
+    let filled = |length: usize, first: usize| (0..length).map(|i| (seed + first + 37 * i) as u8).collect::<Vec<u8>>();
+    let gc = GraphicsController::new();
+    let seq = Sequencer::over(Vram::over([filled(n, 0), filled(n, 80), filled(n, 160), filled(n, 240)], filled(8 * n, 29)));
+    let controller = iddesmar::ControllerRecord { read_map_select: byte(0, 3), mode: byte(1, 255), color_dont_care: byte(2, 15), bitmask: byte(3, 255), ..*gc.record() };
+    let sequencer = iddesmar::SequencerRecord { map_mask: byte(4, 15), memory_mode: byte(5, 63), clock_change_pending: byte(6, 255), ..*seq.record() };
+    (GraphicsController::from_record(controller), Sequencer::from_record(sequencer, seq.vram))
+}
+
+/// Shows of every offset and of some past the planes, for planes of a few lengths, as they are unpacked here; in CGACompatible the last offset is refused. Nothing moves.
+fn shows_unpacked() -> bool {
+    (0..256).all(|seed| {
+        [1, 2, 8, 16].into_iter().all(|n| {
+            let (gc, seq) = of_every_kind(seed, n);
+            let before = (*gc.record(), *seq.record(), bytes_of(&seq.vram));
+            let past = [n + 1, 65536, 1 << 61, (1 << 61) + 1, 1 << 63, usize::MAX - 1, usize::MAX];
+            let alike = in_every_mode(&gc, |gc| {
+                let shown = (0..=n).filter(|offset| gc.show_pixels(&seq, *offset).is_ok()).count();
+                let last = usize::from(gc.record().mode / 32 % 4 == 1);
+                shown == n - last && (0..=n).chain(past).all(|offset| gc.show_pixels(&seq, offset) == unpacked(gc, &seq.vram, offset))
+            });
+            alike && before == (*gc.record(), *seq.record(), bytes_of(&seq.vram))
+        })
+    })
+}
+
+/// The bytes of the planes and of the picture.
+fn bytes_of<B: AsRef<[u8]> + AsMut<[u8]>>(vram: &Vram<B>) -> [Vec<u8>; 5] {
+    from_fn(|part| vram.plane(part).unwrap_or(vram.picture()).to_vec())
+}
+
 /// The memory of a sequencer, copied.
 fn copied<B: AsRef<[u8]> + AsMut<[u8]>>(vram: &Vram<B>) -> Vram {
-    let plane = |number: usize| vram.plane(number).unwrap_or(&[]).to_vec();
-    Vram::over([plane(0), plane(1), plane(2), plane(3)], vram.picture().to_vec())
+    let [p0, p1, p2, p3, picture] = bytes_of(vram);
+    Vram::over([p0, p1, p2, p3], picture)
 }
 
 /// A state that is saved and restored goes on as the one that it was taken from: the same answers, then the same records and memory.
@@ -269,6 +370,7 @@ fn round_trip(host: &mut Host<'_>) -> bool {
             && gc.cpu_write_u8(&mut seq, address, PageSelect::LowPage, byte) == host.gc.cpu_write_u8(&mut host.seq, address, PageSelect::LowPage, byte)
             && gc.cpu_read_u8(&seq, address, PageSelect::LowPage) == host.gc.cpu_read_u8(&host.seq, address, PageSelect::LowPage)
             && gc.serialize(&seq, i) == host.gc.serialize(&host.seq, i)
+            && gc.show_pixels(&seq, i) == host.gc.show_pixels(&host.seq, i)
             && seq.poll_clock_change() == host.seq.poll_clock_change()
     });
     let same = (0..4).all(|plane| seq.vram.plane(plane) == host.seq.vram.plane(plane)) && seq.vram.picture() == host.seq.vram.picture();
@@ -281,11 +383,11 @@ fn unknown() -> bool {
     let (fresh, fresh_seq) = (*gc.record(), *seq.record());
     gc = GraphicsController::from_record(iddesmar::ControllerRecord { register_selected: 9, ..fresh });
     let stopped = gc.cpu_write_u8(&mut seq, 0xA0000, PageSelect::LowPage, 5) == Err(Refusal::State);
-    let refused = stopped && gc.write_data(5) == Err(Refusal::State) && gc.memory_map() == Err(Refusal::State) && gc.record().register_selected == 9;
+    let refused = stopped && shows_nothing(&gc, &seq, Refusal::State) && gc.write_data(5) == Err(Refusal::State) && gc.memory_map() == Err(Refusal::State) && gc.record().register_selected == 9;
     gc.reset();
     seq = Sequencer::from_record(iddesmar::SequencerRecord { register_selected: 6, ..fresh_seq }, seq.vram);
     let stopped_too = gc.cpu_write_u8(&mut seq, 0xA0000, PageSelect::LowPage, 5) == Err(Refusal::State) && seq.plane_set(0, 0, false, 5) == Err(Refusal::State);
-    let refused_too = stopped_too && seq.clock() == Err(Refusal::State) && gc.cpu_read_u8(&seq, 0xA0000, PageSelect::LowPage) == Err(Refusal::State);
+    let refused_too = stopped_too && shows_nothing(&gc, &seq, Refusal::State) && seq.clock() == Err(Refusal::State) && gc.cpu_read_u8(&seq, 0xA0000, PageSelect::LowPage) == Err(Refusal::State);
     seq.reset();
     let no_plane = seq.vram.plane(3).map(<[u8]>::len) == Ok(65536) && seq.vram.plane(4) == Err(Refusal::Plane) && seq.vram.plane(usize::MAX) == Err(Refusal::Plane);
     refused && refused_too && no_plane && *gc.record() == fresh && *seq.record() == fresh_seq
@@ -294,7 +396,7 @@ fn unknown() -> bool {
 fn run() -> i32 {
     let mut lengths = [65536, 65536, 65536, 65536, 524288].map(|n| vec![0u8; n]);
     let [p0, p1, p2, p3, picture] = lengths.each_mut().map(Vec::as_mut_slice);
-    let mut host = Host { gc: GraphicsController::new(), seq: Sequencer::over(Vram::over([p0, p1, p2, p3], picture)), miscounted: 0 };
+    let mut host = Host { gc: GraphicsController::new(), seq: Sequencer::over(Vram::over([p0, p1, p2, p3], picture)), miscounted: 0, misshown: 0 };
     let mut out = BufWriter::new(std::io::stdout());
     let mut line_number = 0;
     for line in std::io::stdin().lock().lines() {
@@ -312,6 +414,9 @@ fn run() -> i32 {
         ("accesses turned away", turned_away()),
         ("bits that known stores change", bits_told()),
         ("bits that the list's stores changed", host.miscounted == 0),
+        ("shows of known planes", worked_shows()),
+        ("shows of every offset, and past the planes", shows_unpacked()),
+        ("pixels of the list's shows", host.misshown == 0),
         ("a saved state restored", round_trip(&mut host)),
         ("unknown records and planes", unknown()),
     ];

@@ -34,7 +34,7 @@ use Rattle.machine.specs.Step.{vramStep, sequencerStep, directStep, grap
 use Rattle.machine.specs.Step.{direct, graphics, cpu, lifted, step}
 use Rattle.machine.specs.Isolation.{Agree, Both, none, more, AlikeMemory, AlikeLatches, AlikeGc, Alike, vramNotFrom, directNotFrom, selectedNotFrom, cpuNotFrom}
 use Rattle.machine.specs.Isolation.{NotFrom, comparedWithout, cpuWithout, ComparesWithout, cpuNoPeek, NoPeek, Obeys, Along}
-use Rattle.machine.specs.Isolation.{AlikePixel, AlikeShow, AlikeValue, same, pixels, parts, numbers, shows, Together, Throughout}
+use Rattle.machine.specs.Isolation.{AlikePixel, AlikeShow, AlikeValue, same, pixels, parts, numbers, eights, Together, Throughout}
 use Rattle.machine.proofs.Laws.{answered-number}
 
 -- ---- lists related entry by entry
@@ -250,7 +250,7 @@ module _ (k : ℕ) where
           go (pixelAt j) h = pixels (both-at j 0 (agree-self 0) (a .pictures))
           go (pixelsAt j) h = parts (both-take 8 (both-drop j (a .pictures)))
           go (changesAt o) h = numbers (changed-same b d e o)
-          go (shownAt d o) h = shows (shown-alike d o)
+          go (shownAt d o) h = eights (shown-alike d o)
 
       -- a refusal's value does not depend on what was read
       blank-same : {q r : Reply} → AlikeReply k q r → (b d : Memory) → blank (valueOf q b l m) ≡ blank (valueOf r d u n)

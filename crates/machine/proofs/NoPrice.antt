@@ -16,7 +16,7 @@ use Rattle.machine_types.specs.declared.gc.ShiftMode.the-variants.{Standard, CG
 use Rattle.bits.proofs.Laws.{bit-shr, bit-mod, bits-ext, all-bits}
 use Rattle.machine.specs.Answers.{Value, one, two, pixel, part, changes, shown, pixelsOf, Said, said}
 use Rattle.machine.specs.Step.{State, Call, step, run}
-use Rattle.machine.specs.Isolation.{Agree, Both, none, more, Alike, AlikePixel, AlikeValue, same, pixels, parts, numbers, shows, AlikeSaid, Obeys, Along, Throughout}
+use Rattle.machine.specs.Isolation.{Agree, Both, none, more, Alike, AlikePixel, AlikeValue, same, pixels, parts, numbers, eights, AlikeSaid, Obeys, Along, Throughout}
 use Rattle.machine.specs.Isolation.{less, lessOf, lessPixel, lessSaid}
 use Rattle.machine.proofs.Isolation.{isolation}
 
@@ -39,8 +39,8 @@ module _ (k : ℕ) where
   map-less (more {x} {y} r h) = ap₂ {B = List ℕ} (λ a l. a ∷ l) (agree-less x y r) (map-less h)
 
   -- what is plane k's own is left out, all else is the same
-  own-less : (p x y : ℕ) → (p ≢ k → x ≡ y) → lessOf k p x ≡ lessOf k p y
-  own-less p x y h = go (ℕ-discrete p k)
+  number-less : (p x y : ℕ) → (p ≢ k → x ≡ y) → lessOf k p x ≡ lessOf k p y
+  number-less p x y h = go (ℕ-discrete p k)
     where
       go : Dec (p ≡ k) → lessOf k p x ≡ lessOf k p y
       go (yes e) = unfold lessOf in rw e (simp eqb-self)
@@ -49,8 +49,8 @@ module _ (k : ℕ) where
   pixel-less : (d : ShiftMode) (j x y : ℕ) → AlikePixel k d j x y → lessPixel k d j x ≡ lessPixel k d j y
   unfolding AlikePixel lessPixel
   pixel-less Standard j x y h = agree-less x y h
-  pixel-less CGACompatible j x y h = own-less (j / 4) x y h
-  pixel-less Chain4 j x y h = own-less (j / 2) x y h
+  pixel-less CGACompatible j x y h = number-less (j / 4) x y h
+  pixel-less Chain4 j x y h = number-less (j / 2) x y h
   pixel-less Unused j x y h = agree-less x y h
 
   value-less : {v w : Value} → AlikeValue k v w → (n : ℕ) → lessSaid k (said n v) ≡ lessSaid k (said n w)
@@ -58,8 +58,8 @@ module _ (k : ℕ) where
   value-less same n = refl
   value-less (pixels {x} {y} r) n = ap (λ z. said n (pixel z)) (agree-less x y r)
   value-less (parts h) n = ap (λ z. said n (part z)) (map-less h)
-  value-less (numbers {f} {g} h) n = let at : (p : ℕ) → lessOf k p (f p) ≡ lessOf k p (g p) = λ p. own-less p (f p) (g p) (h p) in rw (at 0, at 1, at 2, at 3)
-  value-less (shows {d} {l} {u} h) n =
+  value-less (numbers {f} {g} h) n = let at : (p : ℕ) → lessOf k p (f p) ≡ lessOf k p (g p) = λ p. number-less p (f p) (g p) (h p) in rw (at 0, at 1, at 2, at 3)
+  value-less (eights {d} {l} {u} h) n =
       let at : (j : ℕ) → lessPixel k d j (getD l j 0) ≡ lessPixel k d j (getD u j 0) = λ j. pixel-less d j (getD l j 0) (getD u j 0) (h .at j) in
       rw (at 0, at 1, at 2, at 3, at 4, at 5, at 6, at 7)
 

@@ -201,7 +201,7 @@ pub data AlikeValue (k : ℕ) : Value → Value → Type 0 where
   pixels : {x y : ℕ} → Agree k x y → AlikeValue k (pixel x) (pixel y)
   parts : {l u : List ℕ} → Both (Agree k) l u → AlikeValue k (part l) (part u)
   numbers : {f g : ℕ → ℕ} → ((p : ℕ) → p ≢ k → f p ≡ g p) → AlikeValue k (changesOf f) (changesOf g)
-  shows : {d : ShiftMode} {l u : List ℕ} → AlikeShow k d l u → AlikeValue k (shown d l) (shown d u)
+  eights : {d : ShiftMode} {l u : List ℕ} → AlikeShow k d l u → AlikeValue k (shown d l) (shown d u)
 
 -- answers and refusals agree, values but for bit k of pixels, plane k's number of a store and plane k's pixels of a show
 pub record AlikeSaid (k : ℕ) (a b : Said) : Type 0 where
