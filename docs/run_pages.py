@@ -145,9 +145,30 @@ int main(void) {
     return s.number;
 }
 """
+# the shows of host/README.md, and the end of each line: the answer's number, and the pixels
+C_SHOWS = """#include "iddesmar.h"
+int printf(const char *format, ...);
+enum { N = 65536 };
+static uint8_t planes[4][N], picture[8 * N];
+static iddesmar_memory vram = {{planes[0], planes[1], planes[2], planes[3]}, picture, N};
+static void told(iddesmar_shown s) {
+    printf("%%d, and", s.number);
+    for (int i = 0; i < 8; i++) printf(" %%d", s.pixels[i]);
+    printf("\\n");
+}
+int main(void) {
+    iddesmar_gc gc = iddesmar_gc_new();
+    iddesmar_seq seq = iddesmar_seq_new();
+%s
+%s
+    return 0;
+}
+"""
+SHOWN = r"iddesmar_shown (\w+) = .*// (\d, and \d+(?: \d+){7})"
 RUST_FRAME = """#![no_main]
 #[allow(dead_code)]
 mod iddesmar;
+#[allow(unused_imports)]
 use iddesmar::{GraphicsController, PageSelect, Refusal, Sequencer};
 fn drawn() -> Result<[u8; 8], Refusal> {
 %s
@@ -162,7 +183,7 @@ pub extern "C" fn main() -> i32 {
     0
 }
 """
-EXPECTED = {"a.out": "", "my_emulator": ""}
+EXPECTED = {"a.out": "", "my_emulator": "", "shows": "", "shows_in_rust": ""}
 
 
 def kit():
@@ -185,7 +206,7 @@ def linked(piece, given):
 
 
 def held(piece, program, printed):
-    if printed != EXPECTED[program]:
+    if printed is not None and printed != EXPECTED[program]:
         piece.fails(f"the piece prints {printed!r}, not {EXPECTED[program]!r} as the page says")
 
 
@@ -195,33 +216,59 @@ def c_source(piece):
         file.write(C_FRAME % piece.text)
 
 
-def c_piece(piece):
+def c_run(piece, name):
+    """A source of target/pages compiled, linked and run: what it printed, or None where it does not compile."""
     tools = kit()[1]
     said, status = run([f"{tools}/bin/clang", "--target=x86_64-unknown-linux-gnu", "-std=c11", "-Wall", "-Wextra", "-Werror", "-O2", "-fPIC", "-Ihost", "-c",
-                        f"{OUT}/my_emulator.c", "-o", f"{OUT}/piece.o"])
+                        f"{OUT}/{name}.c", "-o", f"{OUT}/piece.o"])
     if status:
         piece.fails(f"the piece does not compile: {said.strip()}")
-    else:
-        held(piece, "a.out", linked(piece, [f"{OUT}/piece.o", LIBRARY]))
+        return None
+    return linked(piece, [f"{OUT}/piece.o", LIBRARY])
 
 
-def rust_source(piece):
-    EXPECTED["my_emulator"] = re.search(r"let pixels = .*// (\[[\d, ]+\])", piece.text)[1]
+def c_piece(piece):
+    held(piece, "a.out", c_run(piece, "my_emulator"))
+
+
+def c_shows(piece):
+    """Each show of the piece has the number and the pixels of the comment beside it."""
+    shows = re.findall(SHOWN, piece.text)
+    if len(shows) != piece.text.count("iddesmar_shown "):
+        piece.fails("a show has no comment with its number and its pixels")
+    EXPECTED["shows"] = "\n".join(said for _, said in shows)
+    with open(f"{OUT}/shows.c", "w") as file:
+        file.write(C_SHOWS % (piece.text, "\n".join(f"    told({name});" for name, _ in shows)))
+    held(piece, "shows", c_run(piece, "shows"))
+
+
+def rust_source(piece, name="my_emulator"):
+    EXPECTED[name] = re.search(r"let pixels = .*// (\[[\d, ]+\])", piece.text)[1]
     shutil.copy("host/iddesmar.rs", f"{OUT}/iddesmar.rs")
-    with open(f"{OUT}/my_emulator.rs", "w") as file:
+    with open(f"{OUT}/{name}.rs", "w") as file:
         file.write(RUST_FRAME % piece.text)
 
 
-def rust_piece(piece):
+def rust_run(piece, name):
+    """The same of a source in Rust; None too where there is no rustc for x86-64."""
     rustc, status = run("bench/x86-rustc")
     if status:
         lacks(f"the piece of Rust was not compiled: {rustc.strip()}")
-        return
-    said, status = run(f"{rustc.strip()} --edition 2021 -O -D warnings -C panic=abort --crate-type staticlib {OUT}/my_emulator.rs -L target/staticlib -o {OUT}/libpiece.a")
+        return None
+    said, status = run(f"{rustc.strip()} --edition 2021 -O -D warnings -C panic=abort --crate-type staticlib {OUT}/{name}.rs -L target/staticlib -o {OUT}/libpiece.a")
     if status:
         piece.fails(f"the piece does not compile: {said.strip()}")
-    else:
-        held(piece, "my_emulator", linked(piece, [f"{OUT}/libpiece.a"]))
+        return None
+    return linked(piece, [f"{OUT}/libpiece.a"])
+
+
+def rust_piece(piece):
+    held(piece, "my_emulator", rust_run(piece, "my_emulator"))
+
+
+def rust_shows(piece):
+    rust_source(piece, "shows_in_rust")
+    held(piece, "shows_in_rust", rust_run(piece, "shows_in_rust"))
 
 
 def example_c(piece):
@@ -370,6 +417,30 @@ def chained_bytes(piece):
         piece.fails("the rule and tape/examples/chain-four.out have " + "; ".join(" ".join(map(str, row)) for row in rule))
 
 
+# the pixels of each shift mode by the rule: from the four planes' bytes at the offset, and from plane 1's at the next
+SHIFT_MODES = {
+    "Standard": lambda planes, after: [sum((byte >> 7 - i & 1) << plane for plane, byte in enumerate(planes)) for i in range(8)],
+    "Chain4": lambda planes, after: [half for byte in planes for half in (byte >> 4, byte & 15)],
+    "CGACompatible": lambda planes, after: [byte >> shift & 3 for byte in (planes[0], after) for shift in (6, 4, 2, 0)],
+}
+
+
+def shift_modes(piece):
+    """Each row's pixels by the rule, from the bytes that the sentence before the piece names; they are the first shows of the example tape."""
+    page = open(piece.page, encoding="utf-8").read()
+    four, one = re.search(r"Planes ((?:[0-9A-F]{2} ){4})at offset 0, and ([0-9A-F]{2}) in plane 1 at 1:", page).groups()
+    planes, after = [int(byte, 16) for byte in four.split()], int(one, 16)
+    drawn = []
+    for name, pixels in (re.match(r"(\w+) +([0-9A-F](?: [0-9A-F]){7})", line).groups() for line in piece.lines):
+        drawn.append(pixels.replace(" ", ""))
+        rule = "".join(f"{pixel:X}" for pixel in SHIFT_MODES[name](planes, after))
+        if drawn[-1] != rule:
+            piece.fails(f"{name} has {rule} by the rule")
+    shown = [line.split()[3] for line in open("tape/examples/shift-modes.out") if line.split()[1] == "8"]
+    if drawn != shown[:len(drawn)]:
+        piece.fails(f"tape/examples/shift-modes.out has {' '.join(shown)}")
+
+
 # vram's stores by their operations in lists
 STORES = {"write_u8": 6, "plane_set": 7, "plane_and": 8, "plane_or": 9}
 
@@ -410,6 +481,8 @@ PIECES = [
     ("README.md", "./run-tape", "shell", "commands"),
     ("README.md", "address  ", chained_bytes, "held to the rule and to tape/examples/chain-four.out"),
     ("README.md", "./run-tape", "shell", "commands"),
+    ("README.md", "Standard  ", shift_modes, "held to the rule and to the shows of tape/examples/shift-modes.out"),
+    ("README.md", "./run-tape", "shell", "commands"),
     ("README.md", "write_u8  0F", changed_bytes, "held to the bits that differ, and to what `replay` answers"),
     ("README.md", "rt check replay", "shell", "commands"),
     ("README.md", "let r = graphics_controller", rattle, "held to the function's name, parameters and answer in crates/graphics_controller/src and crates/machine_types/src"),
@@ -417,6 +490,8 @@ PIECES = [
     ("README.md", "gc = iddesmar_gc_new", c_piece, "compiled in a frame, linked and run; its numbers and its pixels are those of its comments"),
     ("README.md", "oracle/check", "shell", "commands"),
     ("host/README.md", "rt staticlib", "shell", "commands"),
+    ("host/README.md", "static const uint8_t bytes", c_shows, "compiled in a frame, linked and run; each show's number and pixels are those of its comment"),
+    ("host/README.md", "let (mut gc, mut seq)", rust_shows, "compiled in a frame, linked and run; its pixels are those of its comment"),
     ("host/README.md", "A0000: 0", None, "what host/example.c prints: host/run holds it to the page"),
     ("host/README.md", "static uint8_t planes", example_c, "lines of host/example.c, which host/run compiles and runs"),
     ("host/README.md", "let mut gc", rust_piece, "compiled in a frame, linked and run; its pixels are those of its comment"),

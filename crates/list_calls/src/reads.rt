@@ -111,7 +111,10 @@ fn of_controller(
         }
         46 => {
             let o = PlaneOffset(a.first);
-            kept(gc, pixels(of_shown(show_pixels(gc, seq, p0, p1, p2, p3, picture, o))))
+            kept(
+                gc,
+                pixels(of_shown(show_pixels(gc, seq, p0, p1, p2, p3, picture, o))),
+            )
         }
         _ => {
             let mut number = UNTOLD;

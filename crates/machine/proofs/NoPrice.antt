@@ -1,4 +1,5 @@
--- The corollary of `isolation`: whatever is handed out, less bit k of each pixel, less plane k's number of a store and less plane k's pixels of a show, agrees. With k as 3, a label read without plane 3 holds no price.
+-- The corollary of `isolation`: whatever is handed out, less bit k of each pixel, less plane k's number of a store and less plane k's pixels of a show, agrees.
+-- With k as 3, a label read without plane 3 holds no price.
 use Prim.Native.Nat.{ℕ, suc, _+_, _*_, _/_, _%_, _^_}
 use native.Mathlib.Decide.{ℕ-discrete}
 use native.Mathlib.Nat.{mod-lt}

@@ -79,8 +79,8 @@ pub fn judge_pixels(
     if !shaped(shape) {
         return DoneAnswer::Refused(Refusal::Memory);
     }
-    if !within_planes(fields::gc::shift_mode(registers), shape.p0, offset.0) {
-        return DoneAnswer::Refused(Refusal::Place);
+    if within_planes(fields::gc::shift_mode(registers), shape.p0, offset.0) {
+        return DoneAnswer::Done;
     }
-    DoneAnswer::Done
+    DoneAnswer::Refused(Refusal::Place)
 }

@@ -44,7 +44,7 @@ returns-3 c =
     simp (
       sym (after-fits-both .fits-both .ensures) ∙ not-false _ (else1 .if1 .left),
       sym (after-shaped .shaped .ensures) ∙ not-false _ (else2 .if2 .left),
-      sym (c .before .within-planes .ensures ∙ last) ∙ not-true _ (c .if3 .taken),
+      sym (c .before .within-planes .ensures ∙ last) ∙ c .if3 .taken,
     )
 
 returns-4 : tie.Need-returns-4
@@ -61,7 +61,7 @@ returns-4 c =
     simp (
       sym (after-fits-both .fits-both .ensures) ∙ not-false _ (else1 .if1 .left),
       sym (after-shaped .shaped .ensures) ∙ not-false _ (else2 .if2 .left),
-      sym (after-within-planes .within-planes .ensures ∙ last) ∙ not-false _ (c .if3 .left),
+      sym (after-within-planes .within-planes .ensures ∙ last) ∙ c .if3 .left,
     )
 
 pub judge-pixels-spec : {M : Type 1} → statement M
