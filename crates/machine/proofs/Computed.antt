@@ -16,6 +16,7 @@ unfoldable pub computed : State → List Call → Run
 unfolding bit field ofBits sumOf sound selects withAddress keeps withData dataOf fitsGc rotateCount logicFunction writeMode readMode oddEven shiftMode
     chained memoryMap selectsSeq withSeqAddress seqKeeps withSeqData seqDataOf withMark fitsSeq seqOddEven chainFour inMask storedAt answersFrom gcReadAt inWindow
     mapped offset dataBit combined masked maskBit writtenBit visits selectedPlane peekedPlane loaded pixelOf remade storedByte laid stored agrees compared
-    changedBits changedAt nibble pair chain4Pixel cgaPixel shownIn latchesAfter memoryAfter valueOf perform offsetNumber planeNumber placeNumber shownNumber vramPlan seqNumberOf seqValue seqNext directPlan gcNumberOf gcValue
-    gcNext accessNumber showNumber pixelsNumber counted readReply writeDeed cpuPlan vramStep sequencerStep directStep graphicsStep cpuStep step run
+    changedBits changedAt nibble pair chain4Pixel cgaPixel shownIn latchesAfter memoryAfter valueOf perform offsetNumber planeNumber placeNumber shownNumber
+    vramPlan seqNumberOf seqValue seqNext directPlan gcNumberOf gcValue gcNext accessNumber showNumber pixelsNumber
+    counted readReply writeDeed cpuPlan vramStep sequencerStep directStep graphicsStep cpuStep step run
 computed s cs = run s cs
