@@ -30,10 +30,13 @@ fn set_reset(registers: GraphicsRegisters, data: u8, plane: u8) -> u8
     data
 }
 
-// The Set/Reset step of each plane.
+// The Set/Reset step of each plane. Most programs leave Enable at 0: then every plane has the data, and no plane's bit is looked at.
 fn set_resets(registers: GraphicsRegisters, data: u8) -> [u8; 4]
     ensures { λ r. ⌜ r ≡ four (λ p. pick (isOne (bit p (registers .«enable_set_reset»))) (byteOf (λ i. bit p (registers .«set_reset»))) «data») ⌝ }
 {
+    if registers.enable_set_reset == 0 {
+        return [data, data, data, data];
+    }
     let d0 = set_reset(registers, data, 0);
     let d1 = set_reset(registers, data, 1);
     let d2 = set_reset(registers, data, 2);

@@ -63,11 +63,7 @@ pub fn show_pixels(
         },
         DoneAnswer::Done => {
             let mode = fields::gc::shift_mode(registers);
-            let pixels = graphics_pixels::inner::shown(mode, p0, p1, p2, p3, picture, offset);
-            ShownPixels {
-                answer: DoneAnswer::Done,
-                pixels,
-            }
+            graphics_pixels::inner::shown(mode, p0, p1, p2, p3, picture, offset)
         }
     }
 }

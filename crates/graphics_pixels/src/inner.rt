@@ -4,10 +4,13 @@ ghost use mathlib.Core.List.{[], _∷_};
 ghost use Prim.Native.Nat.{_*_, _/_, _+_, _<_, _≤_};
 ghost use lib.ListN.{length, getD, take, drop};
 ghost use Rattle.machine.specs.Memory.{lent, before, Shaped};
+ghost use Rattle.machine.specs.Answers.{doneSaid};
 ghost use Rattle.machine.specs.Deeds.{eight as eightOf, nibble, pair, shownIn};
 ghost use Rattle.machine.specs.Calls.{lastShown};
+use machine_types::DoneAnswer;
 use machine_types::PlaneOffset;
 use machine_types::ShiftMode;
+use machine_types::ShownPixels;
 use vram_planes::inner::byte as plane_byte;
 
 // `Chain4`: of each byte the high four bits, then the low four.
@@ -82,7 +85,18 @@ fn cga(p0: &[u8], p1: &[u8], p2: &[u8], p3: &[u8], picture: &[u8], at: usize) ->
     pairs(first, second)
 }
 
-// The standard modes from the picture; the other two by the plane read, at the offset as it stands.
+// The answer of an accepted show.
+fn accepted(pixels: [u8; 8]) -> ShownPixels
+    ensures { λ r. ⌜ (doneSaid (r .answer) .number ≡ 0) × (r .pixels ≡ pixels) ⌝ }
+{
+    ShownPixels {
+        answer: DoneAnswer::Done,
+        pixels,
+    }
+}
+
+// The standard modes from the picture; the other two by the plane read, at the offset as it stands. Each mode has an answer of its own: where three kinds of pixels met in one array, a copy of the
+// picture's eight was eight loads.
 pub fn shown(
     mode: ShiftMode,
     p0: &[u8],
@@ -91,15 +105,15 @@ pub fn shown(
     p3: &[u8],
     picture: &[u8],
     offset: PlaneOffset,
-) -> [u8; 8]
+) -> ShownPixels
     requires { ⌜ Shaped (lent p0 p1 p2 p3 picture) × (lastShown mode (offset .0) < length (now p0)) ⌝ }
-    ensures { λ r. ⌜ r ≡ shownIn mode (before p0 p1 p2 p3 picture) (offset .0) ⌝ }
+    ensures { λ r. ⌜ (doneSaid (r .answer) .number ≡ 0) × (r .pixels ≡ shownIn mode (before p0 p1 p2 p3 picture) (offset .0)) ⌝ }
 {
     let at = offset.0;
     match mode {
-        ShiftMode::Standard => copied(picture, offset),
-        ShiftMode::CGACompatible => cga(p0, p1, p2, p3, picture, at),
-        ShiftMode::Chain4 => chain4(p0, p1, p2, p3, picture, at),
-        ShiftMode::Unused => copied(picture, offset),
+        ShiftMode::Standard => accepted(copied(picture, offset)),
+        ShiftMode::CGACompatible => accepted(cga(p0, p1, p2, p3, picture, at)),
+        ShiftMode::Chain4 => accepted(chain4(p0, p1, p2, p3, picture, at)),
+        ShiftMode::Unused => accepted(copied(picture, offset)),
     }
 }

@@ -13,15 +13,20 @@ use Rattle.bits.specs.Bit.{bit, ofBits, isOne, bitOf, pick}
 use Rattle.bits.proofs.Laws.{test-lt, bit-of, of-lt, is-of}
 use Rattle.bits.proofs.Bitwise.{bit-and}
 use Rattle.machine_types.specs.declared.gc.GraphicsRegisters.{GraphicsRegisters}
+use Rattle.machine_types.specs.declared.gc.OddEvenModeComplement.{OddEvenModeComplement}
 use Rattle.machine_types.specs.declared.gc.WriteMode.{WriteMode}
 use Rattle.machine_types.specs.declared.seq.Sequencer.{Sequencer}
 use Rattle.machine.specs.Memory.{Memory, plane}
 use Rattle.machine.specs.Answers.{Value, changesOf}
-use Rattle.machine.specs.Sequencer.{storedAt}
+use Rattle.machine.specs.Graphics.{oddEven}
+use Rattle.machine.specs.Sequencer.{chainFour, inMask, storedAt}
+use Rattle.machine.specs.Address.{a0}
+use Rattle.machine.specs.DataPath.{visits}
 use Rattle.machine.specs.Deeds.{byte, latch, any, laid, remade, stored, storedByte, changedAt, memoryAfter}
 use Rattle.machine.specs.Calls.{writeDeed}
 use Rattle.machine.proofs.Laws.{below, laid-more, laid-skip}
 use Rattle.machine.proofs.Changes.{unchanged, remade-changes}
+use Rattle.sequencer_masks.specs.Mask.{maskOf}
 use Rattle.graphics_bytes.specs.PlaneBytes.{planeBytes, four}
 use Rattle.graphics_bytes.proofs.Bytes.{latch-four}
 use Rattle.graphics_visits.specs.Writes.{stores, storesTo}
@@ -48,6 +53,28 @@ tests-shared f g =
     let hg : (p : ℕ) → bitOf (g p) < 2 = λ p. test-lt (g p) in
     is-of 4 (and-lt 4 _ _ (of-lt 4 (λ p. bitOf (f p)) hf) (of-lt 4 (λ p. bitOf (g p)) hg))
     (λ p h. bit-and p _ _ ∙ ap₂ min (bit-of 4 (λ p. bitOf (f p)) hf p h) (bit-of 4 (λ p. bitOf (g p)) hg p h) ∙ both-tests (f p) (g p))
+
+-- ---- the planes that a write stores
+
+module _ (r : GraphicsRegisters) (s : Sequencer) (x o k : ℕ) (a : Bool) (masks : k ≡ maskOf s o a) (even : a ≡ a0 x) where
+  mask-is : k ≡ ofBits 4 (λ p. bitOf (inMask s o (a0 x) p))
+  unfolding maskOf
+  mask-is = masks ∙ ap (maskOf s o) even
+
+  -- visited, and in the mask
+  pub both-masks : (v : ℕ) → v ≡ ofBits 4 (λ p. bitOf (visits r x p)) → bitAnd v k ≡ storesTo r s x o
+  unfolding storesTo stores
+  both-masks v e = ap₂ bitAnd e mask-is ∙ tests-shared (visits r x) (inMask s o (a0 x))
+
+  -- where the controller addresses sequentially, every plane is visited
+  pub mask-alone : OddEvenModeComplement.Sequential ≡ oddEven r → k ≡ storesTo r s x o
+  unfolding storesTo stores visits
+  mask-alone e = rw (← e) mask-is
+
+-- without chain-four a store stays at its offset
+pub stays : (s : Sequencer) (o : ℕ) (b : Bool) → b ≡ chainFour s → b ≡ false → o ≡ storedAt s o
+unfolding storedAt
+stays s o b e n = rw (sym e ∙ n) refl
 
 -- no bit: no test passes; a bit: some test does
 module _ (f : ℕ → Bool) where

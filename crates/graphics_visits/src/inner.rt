@@ -18,22 +18,47 @@ use graphics_paths::visited;
 use machine_types::Changed;
 use machine_types::GraphicsController;
 use machine_types::GraphicsRegisters;
+use machine_types::OddEvenMode;
+use machine_types::OddEvenModeComplement;
 use machine_types::Sequencer;
+use sequencer_masks::inner::mask;
+use sequencer_masks::inner::stored_at;
 use vram_changes::inner::unchanged;
 use vram_planes::PlaneStore;
 
-// The planes that are stored, as four bits: visited, and let through by the mask.
-fn stored_planes(
+// Where a write goes: the planes that it stores, as four bits, and the offset that it stores at.
+struct Target {
+    planes: u8,
+    place: usize,
+}
+
+// The planes visited that the mask lets through. Chain-four, and both sides sequential, which visits every plane, stand apart: each then pays for its own tests alone.
+fn target_of(
     registers: GraphicsRegisters,
     seq: Sequencer,
     at: usize,
     a0: bool,
     address: usize,
-) -> u8
+) -> Target
     requires { ⌜ (fitsSeq seq ≡ true) × (a0 ≡ bit0 address) ⌝ }
-    ensures { λ r. ⌜ r ≡ storesTo registers seq address at ⌝ }
+    ensures { λ r. ⌜ (r .planes ≡ storesTo registers seq address at) × (r .place ≡ storedAt seq at) ⌝ }
 {
-    visited(registers, address) & sequencer_masks::inner::mask(seq, at, a0)
+    if fields::seq::chain_four(seq) {
+        let planes = visited(registers, address) & mask(seq, at, a0);
+        let place = stored_at(seq, at);
+        return Target { planes, place };
+    }
+    let place = at;
+    let mode = fields::gc::odd_even(registers);
+    if let OddEvenModeComplement::Sequential = mode {
+        let addressing = fields::seq::odd_even(seq);
+        if let OddEvenMode::Sequential = addressing {
+            let planes = mask(seq, at, a0);
+            return Target { planes, place };
+        }
+    }
+    let planes = visited(registers, address) & mask(seq, at, a0);
+    Target { planes, place }
 }
 
 // One plane's visit, and how many bits it changed: its byte laid where it is stored, and no pixel moved.
@@ -114,14 +139,15 @@ pub fn write_planes(
         × (changedValue r ≡ changesOf (changedAt (before p0 p1 p2 p3 picture) (after p0 p1 p2 p3 picture) (storedAt seq at))) ⌝ }
 {
     let registers = gc.registers;
-    let planes = stored_planes(registers, seq, at, a0, address);
+    let target = target_of(registers, seq, at, a0, address);
+    let planes = target.planes;
+    let place = target.place;
     if planes == 0 {
         return unchanged();
     }
     let mode = fields::gc::write_mode(registers);
     let latches = gc.latches;
     let bytes = plane_bytes(mode, registers, latches, byte);
-    let place = sequencer_masks::inner::stored_at(seq, at);
     let changed = visit(p0, p1, p2, p3, picture, planes, bytes, place);
     vram_pixels::inner::remake(p0, p1, p2, p3, picture, place);
     changed

@@ -69,8 +69,8 @@ returns-2 c =
     let after-judge-pixels : tie.After-judge-pixels = search needs in
     let start = start-of after-judge-pixels in
     let m = lent-to start in
-    pixels-done (start .args .gc) (start .args .seq) m _ _ (as-told (after-enum-told .enum-told .given .1) (judged after-judge-pixels))
-    (c .shown .ensures ∙ ap (λ (d : ShiftMode). shownIn d m (start .args .offset .0)) (after-shift-mode .shift-mode .ensures))
+    rw (c .shown .ensures .0) (pixels-done (start .args .gc) (start .args .seq) m _ _ (as-told (after-enum-told .enum-told .given .1) (judged after-judge-pixels))
+    (c .shown .ensures .1 ∙ ap (λ (d : ShiftMode). shownIn d m (start .args .offset .0)) (after-shift-mode .shift-mode .ensures)))
 
 pub show-pixels-spec : {M : Type 1} → statement M
 show-pixels-spec =

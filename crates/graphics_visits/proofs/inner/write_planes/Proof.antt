@@ -19,23 +19,20 @@ use Rattle.graphics_visits.proofs.inner.write_planes.Tie as tie
 start-of : tie.After-visit → tie.Start
 start-of after-visit = search needs
 
-planes-of : tie.After-visit → tie.After-stored-planes
-planes-of after-visit = search needs
+target-of : tie.After-visit → tie.After-target-of
+target-of after-visit = search needs
 
 bytes-of : tie.After-visit → tie.After-plane-bytes
 bytes-of after-visit = search needs
 
-place-of : tie.After-visit → tie.After-stored-at
-place-of after-visit = search needs
-
 -- where some plane is stored, the bytes laid and the pixels remade are the mode's deed
 some-stored : (after-visit : tie.After-visit) → let a = start-of after-visit .args in
     let m = mem (a .p0 .now) (a .p1 .now) (a .p2 .now) (a .p3 .now) (a .picture .now) in
-    let place = place-of after-visit .stored-at .result in
+    let place = target-of after-visit .target-of .result .place in
     let bytes = bytes-of after-visit .plane-bytes .result in
-    remade place (laid place (λ p. isOne (bit p (planes-of after-visit .stored-planes .result))) (latch bytes) m)
+    remade place (laid place (λ p. isOne (bit p (target-of after-visit .target-of .result .planes))) (latch bytes) m)
     ≡ memoryAfter (writeDeed (writeMode (a .gc .registers)) (a .gc .registers) (a .seq) (a .address) (a .at) (a .byte)) (a .gc .latches) m
-unfolding start-of planes-of bytes-of place-of
+unfolding start-of target-of bytes-of
 some-stored after-visit =
     let else1 : tie.Else1 = search needs in
     let after-write-mode : tie.After-write-mode = search needs in
@@ -43,12 +40,12 @@ some-stored after-visit =
     let m = mem (a .p0 .now) (a .p1 .now) (a .p2 .now) (a .p3 .now) (a .picture .now) in
     let r = a .gc .registers in
     write-some (after-write-mode .write-mode .result) r (a .seq) (a .address) (a .at) (a .byte) (a .gc .latches) m _ _ _
-    (planes-of after-visit .stored-planes .ensures) (else1 .if1 .left)
-    (bytes-of after-visit .plane-bytes .ensures) (place-of after-visit .stored-at .ensures)
+    (target-of after-visit .target-of .ensures .0) (else1 .if1 .left)
+    (bytes-of after-visit .plane-bytes .ensures) (target-of after-visit .target-of .ensures .1)
     ∙ ap (λ (w : WriteMode). memoryAfter (writeDeed w r (a .seq) (a .address) (a .at) (a .byte)) (a .gc .latches) m) (after-write-mode .write-mode .ensures)
 
-stored-planes-requires : tie.Need-stored-planes-requires
-stored-planes-requires c κs = search needs
+target-of-requires : tie.Need-target-of-requires
+target-of-requires c κs = search needs
 
 unchanged-requires : tie.Need-unchanged-requires
 unchanged-requires c κs = search needs
@@ -56,11 +53,11 @@ unchanged-requires c κs = search needs
 returns : tie.Need-returns
 returns c =
     let then1 : tie.Then1 = search needs in
-    let after-stored-planes : tie.After-stored-planes = search needs in
+    let after-target-of : tie.After-target-of = search needs in
     let start : tie.Start = search needs in
     let a = start .args in
     let r = a .gc .registers in (
-      write-none (writeMode r) r (a .seq) (a .address) (a .at) (a .byte) (a .gc .latches) _ _ (after-stored-planes .stored-planes .ensures) (then1 .if1 .taken),
+      write-none (writeMode r) r (a .seq) (a .address) (a .at) (a .byte) (a .gc .latches) _ _ (after-target-of .target-of .ensures .0) (then1 .if1 .taken),
       ap changedValue (c .unchanged .ensures) ∙ none-changed _ _,
     )
 
@@ -70,24 +67,21 @@ write-mode-requires c κs = search needs
 plane-bytes-requires : tie.Need-plane-bytes-requires
 plane-bytes-requires c κs = search needs
 
-stored-at-requires : tie.Need-stored-at-requires
-stored-at-requires c κs = search needs
-
 visit-requires : tie.Need-visit-requires
 visit-requires c κs =
-    let after-stored-at : tie.After-stored-at = search needs in
+    let after-target-of : tie.After-target-of = search needs in
     let start : tie.Start = search needs in
     let a = start .args in
     let h = stored-at-le (a .seq) (a .at) in
-    omega (arith, after-stored-at .stored-at .ensures, start .pre .0, start .pre .1 .0)
+    omega (arith, after-target-of .target-of .ensures .1, start .pre .0, start .pre .1 .0)
 
 remake-requires : tie.Need-remake-requires
-unfolding start-of place-of
+unfolding start-of target-of
 remake-requires c κs =
     let after-visit : tie.After-visit = search needs in
     let start = start-of after-visit in
     let h = stored-at-le (start .args .seq) (start .args .at) in
-    omega (arith, place-of after-visit .stored-at .ensures, start .pre .0, start .pre .1 .0, after-visit .visit .kept)
+    omega (arith, target-of after-visit .target-of .ensures .1, start .pre .0, start .pre .1 .0, after-visit .visit .kept)
 
 same-length : tie.Need-same-length
 same-length c = search needs
@@ -105,24 +99,23 @@ same-length-5 : tie.Need-same-length-5
 same-length-5 c = search needs
 
 returns-2 : tie.Need-returns-2
-unfolding start-of planes-of bytes-of place-of
+unfolding start-of target-of bytes-of
 returns-2 c =
     let after-remake : tie.After-remake = search needs in
     let after-visit : tie.After-visit = search needs in (
-      after-remake .remake .ensures ∙ ap (remade (place-of after-visit .stored-at .result)) (after-visit .visit .ensures .0) ∙ some-stored after-visit,
-      write-numbers _ _ _ _ _ _ (after-visit .visit .ensures .1) (after-remake .remake .ensures) (place-of after-visit .stored-at .ensures),
+      after-remake .remake .ensures ∙ ap (remade (target-of after-visit .target-of .result .place)) (after-visit .visit .ensures .0) ∙ some-stored after-visit,
+      write-numbers _ _ _ _ _ _ (after-visit .visit .ensures .1) (after-remake .remake .ensures) (target-of after-visit .target-of .ensures .1),
     )
 
 pub write-planes-spec : {M : Type 1} → statement M
 write-planes-spec =
     tie.close
     (tie.spec
-    stored-planes-requires
+    target-of-requires
     unchanged-requires
     returns
     write-mode-requires
     plane-bytes-requires
-    stored-at-requires
     visit-requires
     remake-requires
     same-length
