@@ -1,6 +1,6 @@
 //! What a call costs: the same loop over one call, for any machine. A count of instructions with many turns, less one with
-//! none, is the cost of the turns; the row `loop` is what the turns cost without the call. The shows that serve every shift mode have a loop of
-//! their own, and a row for it: in one loop with the other calls they would move the counts of those.
+//! none, is the cost of the turns; the row `loop` is what the turns cost without the call. The shows that serve every shift mode, and the writes that
+//! store nothing, have loops of their own, and a row for each: in one loop with the other calls they would move the counts of those.
 
 use std::hint::black_box;
 
@@ -10,6 +10,8 @@ pub trait Machine {
     fn set_seq(&mut self, register: u8, byte: u8);
     fn write(&mut self, address: usize, byte: u8);
     fn read(&mut self, address: usize) -> u8;
+    /// A write outside the window, by the number of its refusal.
+    fn write_outside(&mut self, address: usize, byte: u8) -> u8;
     /// A show's first and last pixel, added: by the older show, and by the one that serves every shift mode.
     fn older_show(&mut self, offset: usize) -> u8;
     fn show(&mut self, offset: usize) -> u8;
@@ -17,7 +19,7 @@ pub trait Machine {
     fn sum(&self) -> u64;
 }
 
-pub const ROWS: [&str; 15] = [
+pub const ROWS: [&str; 18] = [
     "loop",
     "mode 0 write",
     "mode 1 write",
@@ -33,14 +35,17 @@ pub const ROWS: [&str; 15] = [
     "standard show",
     "CGA show",
     "Chain4 show",
+    "loop of the stopped writes",
+    "write that the mask stops",
+    "write refused with 2",
 ];
 
 /// Runs a row and gives a number that depends on all of it.
 pub fn run<M: Machine>(machine: &mut M, row: usize, turns: usize) -> u64 {
-    if row < 11 {
-        calls(machine, row, turns)
-    } else {
-        shows(machine, row, turns)
+    match row {
+        0..=10 => calls(machine, row, turns),
+        11..=14 => shows(machine, row, turns),
+        _ => stopped(machine, row, turns),
     }
 }
 
@@ -85,6 +90,26 @@ fn shows<M: Machine>(machine: &mut M, row: usize, turns: usize) -> u64 {
     black_box(sum) + machine.sum()
 }
 
+/// Writes that store nothing: Map Mask 0, and an address of the window that is not chosen.
+#[inline(never)]
+fn stopped<M: Machine>(machine: &mut M, row: usize, turns: usize) -> u64 {
+    set(machine, row);
+    machine.set_seq(2, 0);
+    let mut sum = 0;
+    for turn in 0..turns {
+        let offset = black_box(turn.wrapping_mul(7) & 0xFFFF);
+        sum += match row {
+            16 => {
+                machine.write(0xA0000 + offset, turn as u8);
+                0
+            }
+            17 => u64::from(machine.write_outside(0xB0000 + offset, turn as u8)),
+            _ => 0,
+        };
+    }
+    black_box(sum) + machine.sum()
+}
+
 /// Bytes of its own in each plane at the first 256 offsets, so that there is something to show.
 fn fill<M: Machine>(machine: &mut M) {
     machine.set_seq(4, 4);
@@ -109,6 +134,6 @@ fn set<M: Machine>(machine: &mut M, row: usize) {
     machine.set_gc(4, 2);
     machine.write(0xA0000, 0xA5);
     machine.read(0xA0000);
-    machine.set_gc(5, [0, 0, 1, 2, 3, 0, 0, 0, 8, 0, 0, 0, 0, 0x20, 0x40][row]);
+    machine.set_gc(5, [0, 0, 1, 2, 3, 0, 0, 0, 8, 0, 0, 0, 0, 0x20, 0x40, 0, 0, 0][row]);
     machine.set_seq(4, if matches!(row, 5 | 7) { 12 } else { 4 });
 }

@@ -28,6 +28,13 @@ impl Machine for Ours {
         self.gc.cpu_write_u8(&mut self.seq, address, PageSelect::LowPage, byte).expect("a write");
     }
 
+    fn write_outside(&mut self, address: usize, byte: u8) -> u8 {
+        match self.gc.cpu_write_u8(&mut self.seq, address, PageSelect::LowPage, byte) {
+            Ok(_) => 0,
+            Err(refusal) => refusal as u8,
+        }
+    }
+
     fn read(&mut self, address: usize) -> u8 {
         self.gc.cpu_read_u8(&self.seq, address, PageSelect::LowPage).expect("a read")
     }

@@ -27,6 +27,12 @@ impl Machine for Rust {
         self.gc.cpu_write_u8(&mut self.seq, address, PageSelect::LowPage, byte);
     }
 
+    /// It refuses nothing.
+    fn write_outside(&mut self, address: usize, byte: u8) -> u8 {
+        self.write(address, byte);
+        0
+    }
+
     fn read(&mut self, address: usize) -> u8 {
         self.gc.cpu_read_u8(&self.seq, address, PageSelect::LowPage)
     }
