@@ -14,7 +14,5 @@ pub fn map_address(gc: GraphicsController, address: usize, page: bool) -> Mapped
 {
     let registers = gc.registers;
     let fits = fits_gc(registers);
-    let map = fields::gc::memory_map(registers);
-    let chain = fields::gc::chain_odd_even(registers);
-    judge_address(fits, true, map, chain, 65536, address, page)
+    judge_address(fits, true, registers.miscellaneous, 65536, address, page)
 }

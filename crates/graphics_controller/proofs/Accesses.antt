@@ -15,7 +15,6 @@ use Rattle.machine_types.specs.declared.place.PlaneOffset.{PlaneOffset}
 use Rattle.machine_types.specs.declared.gc.WriteMode.{WriteMode}
 use Rattle.machine_types.specs.declared.gc.GraphicsRegisters.{GraphicsRegisters}
 use Rattle.machine_types.specs.declared.gc.GraphicsController.{GraphicsController}
-use Rattle.machine_types.specs.declared.gc.MemoryMap.{MemoryMap}
 use Rattle.machine_types.specs.declared.gc.ReadMode.{ReadMode}
 use Rattle.machine_types.specs.declared.gc.ReadMode.the-variants.{ReadSelectedPlane, ReadComparedPlanes}
 use Rattle.machine_types.specs.declared.seq.Sequencer.{Sequencer}
@@ -24,7 +23,7 @@ use Rattle.machine.specs.Memory.{Memory, shape, sound}
 use Rattle.machine.specs.Answers.{refusalNumber, Value, one, two, part, changes, changesOf, shown, noPixels, blank, Said, said, Outcome, outcome, answered, mappedSaid}
 use Rattle.machine.specs.Graphics.{fitsGc, memoryMap, chained, oddEven, isOddEven, readMode, writeMode, shiftMode, gcOf}
 use Rattle.machine.specs.Sequencer.{fitsSeq, chainFour, storedAt, answersFrom}
-use Rattle.machine.specs.Address.{inWindow, a0, mapped, offset}
+use Rattle.machine.specs.Address.{inWindow, a0, offset}
 use Rattle.machine.specs.DataPath.{mapSelected, selectedPlane, peekedPlane}
 use Rattle.machine.specs.Deeds.{byte, latch, loaded, changedAt, shownIn, latchesAfter, memoryAfter, valueOf}
 use Rattle.machine.specs.Calls.{refuse, fitsBoth, accessNumber, shows, showNumber, lastShown, pixelsNumber, readReply, writeDeed, cpuPlan, cpuRead, cpuPeek, cpuWrite, serialize, showPixels}
@@ -32,6 +31,7 @@ use Rattle.machine.specs.Calls.{CpuPlan, readCounter, writeCounter, refusedCoun
 use Rattle.machine.specs.Step.{device, lifted, cpuRefused, cpuPerform, cpuStep}
 use Rattle.machine.proofs.Laws.{both, refuse-0, sound-facts, AtOffset, answered-refused, none-raised}
 use Rattle.refusals_records.proofs.Held.{map-select-fits}
+use Rattle.refusals_access.specs.Miscellaneous.{mapOf, offsetOf}
 use Rattle.refusals_access.proofs.Windows.{left}
 use Rattle.graphics_controller.specs.Reads.{readByte}
 
@@ -82,14 +82,14 @@ abbrev pub JudgedAddress : GraphicsRegisters → Sequencer → Memory → ℕ �
 JudgedAddress r s m x page d = outcome (mappedSaid d) r ≡ answered (accessNumber r s (shape m) x page) (two (offset r x page) (bitOf (a0 x))) r r
 
 -- the answer of `judge_address`, by the tests of both records and of the memory, whose lengths are h
-pub judged : (r : GraphicsRegisters) (s : Sequencer) (m : Memory) (x : ℕ) (page : Bool) (d : MappedAnswer) (h : Shape) (f g : Bool) (w : MemoryMap) (c : Bool)
-    → h ≡ shape m → f ≡ fitsBoth r s → g ≡ sound h → w ≡ memoryMap r → c ≡ chained r
-    → outcome (mappedSaid d) x ≡ answered (refuse f 6 (refuse g 1 (refuse (inWindow w x) 2 (refuse (ltb (mapped w c x page % 65536) (h .p0)) 3 0))))
-    (two (mapped w c x page % 65536) (bitOf (a0 x))) x x
+pub judged : (r : GraphicsRegisters) (s : Sequencer) (m : Memory) (x : ℕ) (page : Bool) (d : MappedAnswer) (h : Shape) (f g : Bool)
+    → h ≡ shape m → f ≡ fitsBoth r s → g ≡ sound h → let b = r .miscellaneous in
+    outcome (mappedSaid d) x ≡ answered (refuse f 6 (refuse g 1 (refuse (inWindow (mapOf b) x) 2 (refuse (ltb (offsetOf b x page) (h .p0)) 3 0))))
+    (two (offsetOf b x page) (bitOf (a0 x))) x x
     → JudgedAddress r s m x page d
-unfolding accessNumber offset
-judged r s m x page d h f g w c eh ef eg ew ec e =
-    left (accessNumber r s (shape m) x page) (two (offset r x page) (bitOf (a0 x))) (mappedSaid d) x r (rw (← ef, ← rw eh at eg, ← ew, ← ec) (rw eh at e))
+unfolding accessNumber offset memoryMap chained
+judged r s m x page d h f g eh ef eg e =
+    left (accessNumber r s (shape m) x page) (two (offset r x page) (bitOf (a0 x))) (mappedSaid d) x r (rw (← ef, ← rw eh at eg) (rw eh at e))
 
 -- 6, 1, 9 and 5 passed
 pub show-accepted : (r : GraphicsRegisters) (s : Sequencer) (m : Memory) (o : ℕ) → 0 ≡ showNumber r s (shape m) o → AtOffset (shape m) o

@@ -120,9 +120,7 @@ pub fn cpu_read_u8(
     let shape = Shape::of(p0.len(), p1.len(), p2.len(), p3.len(), picture.len());
     let fits = fits_both(registers, seq);
     let good = shaped(shape);
-    let map = fields::gc::memory_map(registers);
-    let chain = fields::gc::chain_odd_even(registers);
-    match judge_address(fits, good, map, chain, shape.p0, address, page) {
+    match judge_address(fits, good, registers.miscellaneous, shape.p0, address, page) {
         MappedAnswer::Refused(x) => CpuByte {
             answer: ByteAnswer::Refused(x),
             gc: turned_away(gc, x),
@@ -154,9 +152,7 @@ pub fn cpu_peek_u8(
     let shape = Shape::of(p0.len(), p1.len(), p2.len(), p3.len(), picture.len());
     let fits = fits_both(registers, seq);
     let good = shaped(shape);
-    let map = fields::gc::memory_map(registers);
-    let chain = fields::gc::chain_odd_even(registers);
-    match judge_address(fits, good, map, chain, shape.p0, address, page) {
+    match judge_address(fits, good, registers.miscellaneous, shape.p0, address, page) {
         MappedAnswer::Refused(x) => ByteAnswer::Refused(x),
         MappedAnswer::Done(found, _) => {
             let offset = found.0;
@@ -205,9 +201,7 @@ pub fn cpu_write_u8(
     let shape = Shape::of(p0.len(), p1.len(), p2.len(), p3.len(), picture.len());
     let fits = fits_both(registers, seq);
     let good = shaped(shape);
-    let map = fields::gc::memory_map(registers);
-    let chain = fields::gc::chain_odd_even(registers);
-    match judge_address(fits, good, map, chain, shape.p0, address, page) {
+    match judge_address(fits, good, registers.miscellaneous, shape.p0, address, page) {
         MappedAnswer::Refused(x) => CpuStore {
             answer: StoreAnswer::Refused(x),
             gc: turned_away(gc, x),

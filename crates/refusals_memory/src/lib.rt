@@ -9,28 +9,20 @@ use machine_types::PixelPlace;
 use machine_types::PlaneOffset;
 use machine_types::Refusal;
 use machine_types::Shape;
+use std::num::wrapping_sub_usize;
 
 // Not refusal 1: the plane lengths agree, n is from 1 to 65,536, and the picture is 8n long.
 pub fn shaped(shape: Shape) -> bool
     ensures { λ r. ⌜ r ≡ sound shape ⌝ }
 {
     let n = shape.p0;
-    if n == 0 {
-        return false;
-    }
-    if n > 65536 {
-        return false;
-    }
-    if shape.p1 != n {
-        return false;
-    }
-    if shape.p2 != n {
-        return false;
-    }
-    if shape.p3 != n {
-        return false;
-    }
-    shape.picture == 8 * n
+    // 0 where all four planes are n long
+    let planes = (n ^ shape.p1) | (n ^ shape.p2) | (n ^ shape.p3);
+    // 0 where the picture is 8n long
+    let picture = shape.picture ^ (n << 3);
+    // 0 for n from 1 to 65,536: 0 wraps to the largest number
+    let size = wrapping_sub_usize(n, 1) >> 16;
+    planes | picture | size == 0
 }
 
 // Refusals 1, 4, 3: of a call that names a plane and an offset.

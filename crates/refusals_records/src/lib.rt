@@ -35,11 +35,13 @@ pub fn fits_seq(seq: Sequencer) -> bool
     if seq.map_mask > 15 {
         return false;
     }
-    // three registers of six bits, in one test
-    if (seq.clocking_mode | seq.character_map_select | seq.memory_mode) > 63 {
+    if seq.clocking_mode > 63 {
         return false;
     }
-    true
+    if seq.character_map_select > 63 {
+        return false;
+    }
+    seq.memory_mode <= 63
 }
 
 // Both records, of a call that is handed both.

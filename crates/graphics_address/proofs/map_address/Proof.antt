@@ -7,29 +7,14 @@ use Rattle.graphics_address.proofs.map_address.Tie as tie
 fits-gc-requires : tie.Need-fits-gc-requires
 fits-gc-requires c κs = search needs
 
-memory-map-requires : tie.Need-memory-map-requires
-memory-map-requires c κs = search needs
-
-chain-odd-even-requires : tie.Need-chain-odd-even-requires
-chain-odd-even-requires c κs = search needs
-
 judge-address-requires : tie.Need-judge-address-requires
 judge-address-requires c κs = search needs
 
 returns : tie.Need-returns
 returns c =
-    let after-memory-map : tie.After-memory-map = search needs in
     let after-fits-gc : tie.After-fits-gc = search needs in
     let start : tie.Start = search needs in
-    mapped-anywhere (start .args .gc) (start .args .address) (start .args .page) (c .judge-address .result) _ _ _ (after-fits-gc .fits-gc .ensures)
-    (after-memory-map .memory-map .ensures) (c .before .chain-odd-even .ensures) (c .judge-address .ensures)
+    mapped-anywhere (start .args .gc) (start .args .address) (start .args .page) (c .judge-address .result) _ (after-fits-gc .fits-gc .ensures) (c .judge-address .ensures)
 
 pub map-address-spec : {M : Type 1} → statement M
-map-address-spec =
-    tie.close
-    (tie.spec
-    fits-gc-requires
-    memory-map-requires
-    chain-odd-even-requires
-    judge-address-requires
-    returns)
+map-address-spec = tie.close (tie.spec fits-gc-requires judge-address-requires returns)

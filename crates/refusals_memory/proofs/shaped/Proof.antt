@@ -1,36 +1,14 @@
--- `shaped` answers whether the shape is sound: each early return by the law of its own test, the last test by `sound-last`.
-use native.Mathlib.Omega.{arith}
+-- `shaped` answers whether the shape is sound: what it tests is 0 exactly then, by `unlike-zero`.
 use borrow.Author.Needs.{needs}
-use Rattle.refusals_memory.proofs.Shapes.{no-bytes, too-many, other-1, other-2, other-3, sound-last}
+use Rattle.refusals_memory.proofs.Shapes.{unlike-zero}
 use Rattle.refusals_memory.proofs.shaped.Statement.{statement}
 use Rattle.refusals_memory.proofs.shaped.Tie as tie
 
+wrapping-sub-usize-requires : tie.Need-wrapping-sub-usize-requires
+wrapping-sub-usize-requires c κs = search needs
+
 returns : tie.Need-returns
-returns c =
-    no-bytes _ (c .if1 .taken)
-
-returns-2 : tie.Need-returns-2
-returns-2 c =
-    too-many _ (c .if2 .taken)
-
-returns-3 : tie.Need-returns-3
-returns-3 c =
-    other-1 _ (c .if3 .taken)
-
-returns-4 : tie.Need-returns-4
-returns-4 c =
-    other-2 _ (c .if4 .taken)
-
-returns-5 : tie.Need-returns-5
-returns-5 c =
-    other-3 _ (c .if5 .taken)
-
-mul-result : tie.Need-mul-result
-mul-result c = search needs
-
-returns-6 : tie.Need-returns-6
-returns-6 c = sound-last _ (omega arith) (omega arith) (omega arith) (omega arith) (omega arith)
+returns c = unlike-zero _ (c .wrapping-sub-usize .result) (c .wrapping-sub-usize .ok) (c .wrapping-sub-usize .ensures)
 
 pub shaped-spec : {M : Type 1} → statement M
-shaped-spec =
-    tie.close (tie.spec returns returns-2 returns-3 returns-4 returns-5 mul-result returns-6)
+shaped-spec = tie.close (tie.spec wrapping-sub-usize-requires returns)

@@ -25,16 +25,13 @@ address-judged : (after-judge-address : tie.After-judge-address)
     JudgedAddress (a .gc .registers) (a .seq) (lent-to start) (a .address) (a .page) (after-judge-address .judge-address .result)
 unfolding start-of
 address-judged after-judge-address =
-    let after-chain-odd-even : tie.After-chain-odd-even = search needs in
-    let after-memory-map : tie.After-memory-map = search needs in
     let after-shaped : tie.After-shaped = search needs in
     let after-fits-both : tie.After-fits-both = search needs in
     let after-of : tie.After-of = search needs in
     let start = start-of after-judge-address in
     let a = start .args in
-    judged (a .gc .registers) (a .seq) (lent-to start) (a .address) (a .page) (after-judge-address .judge-address .result) _ _ _ _ _ (after-of .of .ensures)
-    (after-fits-both .fits-both .ensures) (after-shaped .shaped .ensures) (after-memory-map .memory-map .ensures) (after-chain-odd-even .chain-odd-even .ensures)
-    (after-judge-address .judge-address .ensures)
+    judged (a .gc .registers) (a .seq) (lent-to start) (a .address) (a .page) (after-judge-address .judge-address .result) _ _ _ (after-of .of .ensures)
+    (after-fits-both .fits-both .ensures) (after-shaped .shaped .ensures) (after-judge-address .judge-address .ensures)
 
 of-requires : tie.Need-of-requires
 of-requires c κs = search needs
@@ -44,12 +41,6 @@ fits-both-requires c κs = search needs
 
 shaped-requires : tie.Need-shaped-requires
 shaped-requires c κs = search needs
-
-memory-map-requires : tie.Need-memory-map-requires
-memory-map-requires c κs = search needs
-
-chain-odd-even-requires : tie.Need-chain-odd-even-requires
-chain-odd-even-requires c κs = search needs
 
 judge-address-requires : tie.Need-judge-address-requires
 judge-address-requires c κs = search needs
@@ -119,8 +110,6 @@ cpu-read-u8-spec =
     of-requires
     fits-both-requires
     shaped-requires
-    memory-map-requires
-    chain-odd-even-requires
     judge-address-requires
     enum-known-x
     turned-away-requires
