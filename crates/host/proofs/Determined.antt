@@ -15,7 +15,7 @@ use denote.Triple.Clauses.{AtExit}
 use borrow.Fn.Kinds.{Dens}
 use Rattle.machine.specs.Memory.{Memory, lent}
 use Rattle.machine.specs.Answers.{one, changes, outcome}
-use Rattle.machine.specs.Calls.{gcReset, gcWriteAddress, gcWriteData, cpuRead, cpuWrite}
+use Rattle.machine.specs.Calls.{seqWriteAddress, seqWriteData, gcReset, gcWriteAddress, gcWriteData, cpuRead, cpuWrite}
 use Rattle.machine.specs.Step.{lifted, graphicsStep}
 use Rattle.answers.specs.declared.narrow.Answer.{Answer}
 use Rattle.answers.specs.declared.wide.Stored.{Stored}
@@ -24,7 +24,7 @@ use Rattle.answers.specs.Wide.{StoredAs}
 use Rattle.answers.proofs.Told.{answer-is, pixel-is, clock-is, mapped-is}
 use Rattle.host_records.proofs.Told.{sequencer-answer-is}
 use Rattle.host_records.specs.Records.{isSet, controllerOf, controllerRecordOf}
-use Rattle.host_calls.specs.Hosted.{Held, held, graphicsHosted, cpuHosted}
+use Rattle.host_calls.specs.Hosted.{Held, held, sequencerHosted, graphicsHosted, cpuHosted}
 use Rattle.machine_types.proofs.OneAnswer.{OneAnswer, OneOutcome}
 use Rattle.host.proofs.planes.iddesmar_vram_read_u8.Reads as vram-read-u8
 use Rattle.host.proofs.planes.iddesmar_vram_read_u8.Kinds as vram-read-u8-kinds
@@ -56,10 +56,6 @@ use Rattle.host.proofs.sequencer_ports.iddesmar_seq_set_clock_change_pe
 use Rattle.host.proofs.sequencer_ports.iddesmar_seq_set_clock_change_pending.Kinds as seq-set-clock-change-pending-kinds
 use Rattle.host.proofs.sequencer_ports.iddesmar_seq_poll_clock_change.Reads as seq-poll-clock-change
 use Rattle.host.proofs.sequencer_ports.iddesmar_seq_poll_clock_change.Kinds as seq-poll-clock-change-kinds
-use Rattle.host.proofs.sequencer_ports.iddesmar_seq_write_address.Reads as seq-write-address
-use Rattle.host.proofs.sequencer_ports.iddesmar_seq_write_address.Kinds as seq-write-address-kinds
-use Rattle.host.proofs.sequencer_ports.iddesmar_seq_write_data.Reads as seq-write-data
-use Rattle.host.proofs.sequencer_ports.iddesmar_seq_write_data.Kinds as seq-write-data-kinds
 use Rattle.host.proofs.sequencer_ports.iddesmar_seq_read_address.Reads as seq-read-address
 use Rattle.host.proofs.sequencer_ports.iddesmar_seq_read_address.Kinds as seq-read-address-kinds
 use Rattle.host.proofs.sequencer_ports.iddesmar_seq_read_data.Reads as seq-read-data
@@ -110,6 +106,8 @@ use Rattle.host.proofs.access.iddesmar_gc_cpu_write_u8 as gc-cpu-write-
 use Rattle.host.proofs.ports.iddesmar_gc_reset as gc-reset
 use Rattle.host.proofs.ports.iddesmar_gc_write_address as gc-write-address
 use Rattle.host.proofs.ports.iddesmar_gc_write_data as gc-write-data
+use Rattle.host.proofs.sequencer_ports.iddesmar_seq_write_address_2 as seq-write-address-2
+use Rattle.host.proofs.sequencer_ports.iddesmar_seq_write_data_2 as seq-write-data-2
 
 -- ---- memory alone
 
@@ -174,14 +172,6 @@ module _ (κs : Lfts 0) (a : Dens κs seq-set-clock-change-pending-kinds.ps) whe
 module _ (κs : Lfts 0) (a : Dens κs seq-poll-clock-change-kinds.ps) where
   pub seq-poll-clock-change-determined : OneAnswer (seq-poll-clock-change.Post κs a)
   seq-poll-clock-change-determined r r′ e e′ p q = sequencer-answer-is r r′ p q
-
-module _ (κs : Lfts 0) (a : Dens κs seq-write-address-kinds.ps) where
-  pub seq-write-address-determined : OneAnswer (seq-write-address.Post κs a)
-  seq-write-address-determined r r′ e e′ p q = sequencer-answer-is r r′ p q
-
-module _ (κs : Lfts 0) (a : Dens κs seq-write-data-kinds.ps) where
-  pub seq-write-data-determined : OneAnswer (seq-write-data.Post κs a)
-  seq-write-data-determined r r′ e e′ p q = sequencer-answer-is r r′ p q
 
 module _ (κs : Lfts 0) (a : Dens κs seq-read-address-kinds.ps) where
   pub seq-read-address-determined : OneAnswer (seq-read-address.Post κs a)
@@ -308,6 +298,26 @@ module _ {M : Type 1} (𝓤 : URA M) (H : Heap 𝓤) (A : Atoms 𝓤) (at-mem : 
 
   pub gc-write-data-determined : OneOutcome gc-write-data-post (λ e. now (e .0))
   gc-write-data-determined r r′ e e′ p q = (answer-is r r′ (answer-of p q), next-of p q)
+
+module _ {M : Type 1} (𝓤 : URA M) (H : Heap 𝓤) (A : Atoms 𝓤) (at-mem : Store → SProp 𝓤) (run : Routine → Fun 𝓤) (κs : Lfts 1) (a : Args seq-write-address-2.signature κs) where
+  abbrev seq-write-address-2-post : Answer → AtExit seq-write-address-2.ended κs → Type 0
+  seq-write-address-2-post r e = outcome (answerSaid r) (now (e .0)) ≡ sequencerHosted (now (a .0)) (one 0) (seqWriteAddress (a .1 .0))
+
+  seq-write-address-2-reads : (r : Answer) (e : AtExit seq-write-address-2.ended κs) → seq-write-address-2.clauses 𝓤 H A at-mem run κs a .ensures tt r e ≡ fact 𝓤 (seq-write-address-2-post r e)
+  seq-write-address-2-reads r e = refl
+
+  pub seq-write-address-2-determined : OneOutcome seq-write-address-2-post (λ e. now (e .0))
+  seq-write-address-2-determined r r′ e e′ p q = (answer-is r r′ (answer-of p q), next-of p q)
+
+module _ {M : Type 1} (𝓤 : URA M) (H : Heap 𝓤) (A : Atoms 𝓤) (at-mem : Store → SProp 𝓤) (run : Routine → Fun 𝓤) (κs : Lfts 1) (a : Args seq-write-data-2.signature κs) where
+  abbrev seq-write-data-2-post : Answer → AtExit seq-write-data-2.ended κs → Type 0
+  seq-write-data-2-post r e = outcome (answerSaid r) (now (e .0)) ≡ sequencerHosted (now (a .0)) (one 0) (seqWriteData (a .1 .0))
+
+  seq-write-data-2-reads : (r : Answer) (e : AtExit seq-write-data-2.ended κs) → seq-write-data-2.clauses 𝓤 H A at-mem run κs a .ensures tt r e ≡ fact 𝓤 (seq-write-data-2-post r e)
+  seq-write-data-2-reads r e = refl
+
+  pub seq-write-data-2-determined : OneOutcome seq-write-data-2-post (λ e. now (e .0))
+  seq-write-data-2-determined r r′ e e′ p q = (answer-is r r′ (answer-of p q), next-of p q)
 
 module _ {M : Type 1} (𝓤 : URA M) (H : Heap 𝓤) (A : Atoms 𝓤) (at-mem : Store → SProp 𝓤) (run : Routine → Fun 𝓤) (κs : Lfts 6) (a : Args gc-cpu-read-u8.signature κs) where
   abbrev gc-cpu-read-u8-post : Answer → AtExit gc-cpu-read-u8.ended κs → Type 0

@@ -1,4 +1,4 @@
-// The sequencer's ports, its clock and the pending mark, on its record by value.
+// The sequencer's ports, its clock and the pending mark. The two port writes update the record where it stands; the others take it by value.
 ghost use mathlib.Core.Path.{_≡_};
 ghost use Rattle.machine.specs.Answers.{one, outcome};
 ghost use Rattle.machine_types.specs.Start.{freshSeq};
@@ -14,6 +14,8 @@ use answers::done;
 use answers::of_byte;
 use answers::of_clock;
 use answers::unknown;
+use host_calls::sequencer_address_of;
+use host_calls::sequencer_data_of;
 use host_records::left::SequencerAnswer;
 use host_records::left::of_sequencer_done;
 use host_records::left::of_sequencer_flag;
@@ -87,13 +89,12 @@ pub extern "C" fn iddesmar_seq_read_address(seq: SequencerRecord) -> Answer
 }
 
 #[no_mangle]
-pub extern "C" fn iddesmar_seq_write_address(seq: SequencerRecord, byte: u8) -> SequencerAnswer
-    ensures { λ r. ⌜ outcome (answerSaid (r .answer)) (r .seq) ≡ sequencerHosted seq (one 0) (seqWriteAddress byte) ⌝ }
+pub extern "C" fn iddesmar_seq_write_address_2(seq: &mut SequencerRecord, byte: u8) -> Answer
+    ensures { λ r. ⌜ outcome (answerSaid r) (now (seq .exit)) ≡ sequencerHosted (now (seq .entry)) (one 0) (seqWriteAddress byte) ⌝ }
 {
-    if !known_sequencer(seq) {
-        return unknown_sequencer(seq);
-    }
-    of_sequencer_done(seq, sequencer::write_address(to_sequencer(seq), byte))
+    let w = sequencer_address_of(*seq, byte);
+    *seq = w.seq;
+    w.answer
 }
 
 #[no_mangle]
@@ -107,11 +108,10 @@ pub extern "C" fn iddesmar_seq_read_data(seq: SequencerRecord) -> Answer
 }
 
 #[no_mangle]
-pub extern "C" fn iddesmar_seq_write_data(seq: SequencerRecord, byte: u8) -> SequencerAnswer
-    ensures { λ r. ⌜ outcome (answerSaid (r .answer)) (r .seq) ≡ sequencerHosted seq (one 0) (seqWriteData byte) ⌝ }
+pub extern "C" fn iddesmar_seq_write_data_2(seq: &mut SequencerRecord, byte: u8) -> Answer
+    ensures { λ r. ⌜ outcome (answerSaid r) (now (seq .exit)) ≡ sequencerHosted (now (seq .entry)) (one 0) (seqWriteData byte) ⌝ }
 {
-    if !known_sequencer(seq) {
-        return unknown_sequencer(seq);
-    }
-    of_sequencer_done(seq, sequencer::write_data(to_sequencer(seq), byte))
+    let w = sequencer_data_of(*seq, byte);
+    *seq = w.seq;
+    w.answer
 }

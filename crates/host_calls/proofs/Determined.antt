@@ -10,7 +10,7 @@ use Rattle.answers.specs.declared.wide.Stored.{Stored}
 use Rattle.answers.proofs.Told.{answer-is}
 use Rattle.host_records.specs.declared.record.ControllerRecord.{ControllerRecord}
 use Rattle.host_records.specs.declared.record.StatsRecord.{StatsRecord}
-use Rattle.host_records.proofs.Told.{controller-answer-is}
+use Rattle.host_records.proofs.Told.{controller-answer-is, sequencer-answer-is}
 use Rattle.host_calls.specs.Hosted.{Held}
 use Rattle.machine_types.proofs.OneAnswer.{OneAnswer, OneOutcome}
 use Rattle.host_calls.proofs.reset_of.Reads as reset-of
@@ -19,6 +19,10 @@ use Rattle.host_calls.proofs.address_of.Reads as address-of
 use Rattle.host_calls.proofs.address_of.Kinds as address-of-kinds
 use Rattle.host_calls.proofs.data_of.Reads as data-of
 use Rattle.host_calls.proofs.data_of.Kinds as data-of-kinds
+use Rattle.host_calls.proofs.sequencer_address_of.Reads as sequencer-address-of
+use Rattle.host_calls.proofs.sequencer_address_of.Kinds as sequencer-address-of-kinds
+use Rattle.host_calls.proofs.sequencer_data_of.Reads as sequencer-data-of
+use Rattle.host_calls.proofs.sequencer_data_of.Kinds as sequencer-data-of-kinds
 use Rattle.host_calls.proofs.read_of.Reads as read-of
 use Rattle.host_calls.proofs.read_of.Kinds as read-of-kinds
 use Rattle.host_calls.proofs.write_of.Reads as write-of
@@ -41,6 +45,16 @@ module _ (κs : Lfts 0) (a : Dens κs address-of-kinds.ps) where
 module _ (κs : Lfts 0) (a : Dens κs data-of-kinds.ps) where
   pub data-of-determined : OneAnswer (data-of.Post κs a)
   data-of-determined r r′ e e′ p q = controller-answer-is r r′ p q
+
+-- ---- the sequencer's record
+
+module _ (κs : Lfts 0) (a : Dens κs sequencer-address-of-kinds.ps) where
+  pub sequencer-address-of-determined : OneAnswer (sequencer-address-of.Post κs a)
+  sequencer-address-of-determined r r′ e e′ p q = sequencer-answer-is r r′ p q
+
+module _ (κs : Lfts 0) (a : Dens κs sequencer-data-of-kinds.ps) where
+  pub sequencer-data-of-determined : OneAnswer (sequencer-data-of.Post κs a)
+  sequencer-data-of-determined r r′ e e′ p q = sequencer-answer-is r r′ p q
 
 -- ---- both records and memory
 

@@ -1,28 +1,32 @@
-// The calls that move the controller's record, over a host's records and by value: the library puts back what they leave.
+// The calls that move a record where it stands, over a host's records and by value: the library puts back what they leave.
 ghost use mathlib.Core.Path.{_≡_};
 ghost use Rattle.machine.specs.Memory.{before, after};
 ghost use Rattle.machine.specs.Answers.{one, changes, outcome};
-ghost use Rattle.machine.specs.Calls.{cpuRead, cpuWrite, gcReset, gcWriteAddress, gcWriteData};
+ghost use Rattle.machine.specs.Calls.{cpuRead, cpuWrite, gcReset, gcWriteAddress, gcWriteData, seqWriteAddress, seqWriteData};
 ghost use Rattle.machine.specs.Step.{lifted, graphicsStep};
 ghost use Rattle.answers.specs.Answers.{answerSaid};
 ghost use Rattle.answers.specs.Wide.{StoredAs};
 ghost use Rattle.host_records.specs.Records.{isSet, withStats, controllerOf, controllerRecordOf};
-ghost use Rattle.host_calls.specs.Hosted.{held, cpuHosted, graphicsHosted};
+ghost use Rattle.host_calls.specs.Hosted.{held, cpuHosted, graphicsHosted, sequencerHosted};
 use answers::done;
 use answers::of_byte;
 use graphics_controller::cpu_read_u8;
 use graphics_controller::cpu_write_u8;
 use host_records::left::ControllerAnswer;
+use host_records::left::SequencerAnswer;
 use host_records::left::StatsAnswer;
 use host_records::left::of_cpu_store;
 use host_records::left::of_graphics_done;
+use host_records::left::of_sequencer_done;
 use host_records::left::unknown_controller;
 use host_records::left::unknown_counters;
+use host_records::left::unknown_sequencer;
 use host_records::record::ControllerRecord;
 use host_records::record::SequencerRecord;
 use host_records::record::is_set;
 use host_records::record::known;
 use host_records::record::known_controller;
+use host_records::record::known_sequencer;
 use host_records::record::of_controller;
 use host_records::record::to_controller;
 use host_records::record::to_sequencer;
@@ -126,4 +130,22 @@ pub fn data_of(gc: ControllerRecord, byte: u8) -> ControllerAnswer
         gc.spare,
         graphics_controller::write_data(to_controller(gc), byte),
     )
+}
+
+pub fn sequencer_address_of(seq: SequencerRecord, byte: u8) -> SequencerAnswer
+    ensures { λ r. ⌜ outcome (answerSaid (r .answer)) (r .seq) ≡ sequencerHosted seq (one 0) (seqWriteAddress byte) ⌝ }
+{
+    if !known_sequencer(seq) {
+        return unknown_sequencer(seq);
+    }
+    of_sequencer_done(seq, sequencer::write_address(to_sequencer(seq), byte))
+}
+
+pub fn sequencer_data_of(seq: SequencerRecord, byte: u8) -> SequencerAnswer
+    ensures { λ r. ⌜ outcome (answerSaid (r .answer)) (r .seq) ≡ sequencerHosted seq (one 0) (seqWriteData byte) ⌝ }
+{
+    if !known_sequencer(seq) {
+        return unknown_sequencer(seq);
+    }
+    of_sequencer_done(seq, sequencer::write_data(to_sequencer(seq), byte))
 }

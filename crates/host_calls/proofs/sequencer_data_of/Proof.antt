@@ -1,10 +1,10 @@
--- Refusal 6 where a number selects no register, else as `write_data` of the record that is meant.
+-- `sequencer_data_of` answers 6 where a number selects no register, else as `write_data` of the record that is meant.
 use mathlib.Core.Path.{refl, _∙_}
 use Rattle.machine.specs.Answers.{one}
 use Rattle.host_calls.proofs.Laws.{unknown-of, known-of, seq-unknown, seq-known}
 use borrow.Author.Needs.{needs}
-use Rattle.host.proofs.sequencer_ports.iddesmar_seq_write_data.Statement.{statement}
-use Rattle.host.proofs.sequencer_ports.iddesmar_seq_write_data.Tie as tie
+use Rattle.host_calls.proofs.sequencer_data_of.Statement.{statement}
+use Rattle.host_calls.proofs.sequencer_data_of.Tie as tie
 
 known-sequencer-requires : tie.Need-known-sequencer-requires
 known-sequencer-requires c κs = search needs
@@ -36,8 +36,8 @@ returns-2 c =
     seq-known (start .args .seq) (one 0) _ (known-of (else1 .if1 .left) (after-known-sequencer .known-sequencer .ensures)) _ (after-to-sequencer .to-sequencer .ensures) _ _ _
     (c .of-sequencer-done .ensures) (c .before .write-data .ensures)
 
-pub iddesmar-seq-write-data-spec : {M : Type 1} → statement M
-iddesmar-seq-write-data-spec =
+pub sequencer-data-of-spec : {M : Type 1} → statement M
+sequencer-data-of-spec =
     tie.close
     (tie.spec
     known-sequencer-requires
