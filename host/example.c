@@ -23,8 +23,8 @@ static unsigned drawn; /* how often the painter was called */
 
 /* Port 3C4 and 3C5, 3CE and 3CF. */
 static void seq_port(uint8_t index, uint8_t data) {
-    seq = iddesmar_seq_write_address(seq, index).seq;
-    seq = iddesmar_seq_write_data(seq, data).seq;
+    iddesmar_seq_write_address(&seq, index);
+    iddesmar_seq_write_data(&seq, data);
 }
 
 static void gc_port(uint8_t index, uint8_t data) {
@@ -34,7 +34,7 @@ static void gc_port(uint8_t index, uint8_t data) {
 
 /* The painter: the eight pixels of an offset, in whatever shift mode the program has chosen. */
 static void paint(size_t offset) {
-    iddesmar_shown s = iddesmar_gc_show_pixels(gc, seq, IDDESMAR_ALL(&vram), offset);
+    iddesmar_shown s = iddesmar_gc_show_pixels(&gc, &seq, IDDESMAR_ALL(&vram), offset);
     if (s.number != IDDESMAR_DONE) return; /* 5: past the planes, in CGACompatible with the next offset */
     for (int i = 0; i < 8; i++) screen[8 * offset + i] = s.pixels[i];
     drawn++;
@@ -50,7 +50,7 @@ static void paint_address(size_t address) {
 
 /* The processor's bus: what the card does not answer goes elsewhere, and what changes no bit of a plane needs no painter. */
 static int bus_write(size_t address, uint8_t byte) {
-    iddesmar_stored s = iddesmar_gc_cpu_write_u8(&gc, seq, IDDESMAR_ALL(&vram), address, 0, byte);
+    iddesmar_stored s = iddesmar_gc_cpu_write_u8(&gc, &seq, IDDESMAR_ALL(&vram), address, 0, byte);
     if (s.changed[0] || s.changed[1] || s.changed[2] || s.changed[3]) paint_address(address);
     return s.number;
 }
@@ -67,7 +67,7 @@ int main(void) {
     int below = bus_write(0x9FFFF, 0xA5);
     printf("A0000: %d %d, 9FFFF: %d, drawn: %u", here, again, below, drawn);
     print_pixels("pixels", screen);
-    iddesmar_answer read = iddesmar_gc_cpu_read_u8(&gc, seq, IDDESMAR_ALL(&vram), 0xA0000, 0);
+    iddesmar_answer read = iddesmar_gc_cpu_read_u8(&gc, &seq, IDDESMAR_ALL(&vram), 0xA0000, 0);
     printf(", read: %02X, latches: %02X %02X %02X %02X", read.value, gc.latches[0], gc.latches[1], gc.latches[2], gc.latches[3]);
     printf(", turned away: %u", (unsigned)gc.stats.refused_accesses);
     gc_port(5, 0x20);  /* Mode: shift mode CGACompatible */

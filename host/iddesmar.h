@@ -9,7 +9,7 @@
 #ifndef IDDESMAR_H
 #define IDDESMAR_H
 
-#define IDDESMAR_VERSION "0.7.0"
+#define IDDESMAR_VERSION "0.8.0"
 
 #if defined(__has_include)
 #if __has_include(<stdint.h>) && __has_include(<stddef.h>)
@@ -171,15 +171,25 @@ typedef struct iddesmar_memory {
 } iddesmar_memory;
 #define IDDESMAR_ALL(m) (m)->planes[0], (m)->n, (m)->planes[1], (m)->n, (m)->planes[2], (m)->n, (m)->planes[3], (m)->n, (m)->picture, 8 * (m)->n
 
-/* ---- the graphics controller; a record behind a pointer is updated where it stands */
+/* In the archive these seven go by another name. Until 0.7.0 they took a record by value that they now take behind a pointer: a program compiled against such a header asks for a name that is
+ * not there, and is refused when it is linked, instead of handing over a record where a pointer is expected. */
+#define iddesmar_gc_cpu_read_u8 iddesmar_gc_cpu_read_u8_2
+#define iddesmar_gc_cpu_write_u8 iddesmar_gc_cpu_write_u8_2
+#define iddesmar_gc_cpu_peek_u8 iddesmar_gc_cpu_peek_u8_2
+#define iddesmar_gc_show_pixels iddesmar_gc_show_pixels_2
+#define iddesmar_gc_serialize iddesmar_gc_serialize_2
+#define iddesmar_seq_write_address iddesmar_seq_write_address_2
+#define iddesmar_seq_write_data iddesmar_seq_write_data_2
+
+/* ---- the graphics controller; a record behind a pointer is updated where it stands, one behind a pointer to const is only read */
 
 iddesmar_gc iddesmar_gc_new(void);
 iddesmar_answer iddesmar_gc_reset(iddesmar_gc *gc);
 iddesmar_answer iddesmar_gc_write_address(iddesmar_gc *gc, uint8_t byte);
 iddesmar_answer iddesmar_gc_write_data(iddesmar_gc *gc, uint8_t byte);
-iddesmar_answer iddesmar_gc_cpu_read_u8(iddesmar_gc *gc, iddesmar_seq seq, IDDESMAR_SEEN, size_t address, uint8_t page);
-iddesmar_stored iddesmar_gc_cpu_write_u8(iddesmar_gc *gc, iddesmar_seq seq, IDDESMAR_LENT, size_t address, uint8_t page, uint8_t byte);
-iddesmar_answer iddesmar_gc_cpu_peek_u8(iddesmar_gc gc, iddesmar_seq seq, IDDESMAR_SEEN, size_t address, uint8_t page);
+iddesmar_answer iddesmar_gc_cpu_read_u8(iddesmar_gc *gc, const iddesmar_seq *seq, IDDESMAR_SEEN, size_t address, uint8_t page);
+iddesmar_stored iddesmar_gc_cpu_write_u8(iddesmar_gc *gc, const iddesmar_seq *seq, IDDESMAR_LENT, size_t address, uint8_t page, uint8_t byte);
+iddesmar_answer iddesmar_gc_cpu_peek_u8(const iddesmar_gc *gc, const iddesmar_seq *seq, IDDESMAR_SEEN, size_t address, uint8_t page);
 
 /* The eight pixels of an offset, by the shift mode; it serves all four, and is never refused with 9.
  *   Standard, Unused  the eight bytes of the picture from 8 * offset on, as they stand
@@ -188,9 +198,9 @@ iddesmar_answer iddesmar_gc_cpu_peek_u8(iddesmar_gc gc, iddesmar_seq seq, IDDESM
  *   Chain4            pixels[2 * i] and pixels[2 * i + 1] are the high and the low four bits of plane i's byte at the offset: 0 to 15
  * CGACompatible and Chain4 read planes, never the picture, at the offset as it stands: Memory Mode (chain-four, odd/even), map select, masks and the controller's
  * odd/even change nothing. No record, counter or memory moves. */
-iddesmar_shown iddesmar_gc_show_pixels(iddesmar_gc gc, iddesmar_seq seq, IDDESMAR_SEEN, size_t offset);
+iddesmar_shown iddesmar_gc_show_pixels(const iddesmar_gc *gc, const iddesmar_seq *seq, IDDESMAR_SEEN, size_t offset);
 /* The older show: the same in Standard and Unused; in CGACompatible and Chain4 it is refused with 9. */
-iddesmar_shown iddesmar_gc_serialize(iddesmar_gc gc, iddesmar_seq seq, IDDESMAR_SEEN, size_t offset);
+iddesmar_shown iddesmar_gc_serialize(const iddesmar_gc *gc, const iddesmar_seq *seq, IDDESMAR_SEEN, size_t offset);
 
 iddesmar_mapped iddesmar_gc_map_address(iddesmar_gc gc, size_t address, uint8_t page);
 iddesmar_answer iddesmar_gc_read_address(iddesmar_gc gc);
@@ -201,7 +211,7 @@ iddesmar_answer iddesmar_gc_memory_map(iddesmar_gc gc); /* A0000_128k, A0000_64K
 iddesmar_answer iddesmar_gc_odd_even(iddesmar_gc gc);   /* Sequential, OddEven */
 iddesmar_answer iddesmar_gc_shift_mode(iddesmar_gc gc); /* Standard, CGACompatible, Chain4, Unused */
 
-/* ---- the sequencer: its registers and clock, then its own calls on memory */
+/* ---- the sequencer: its registers and clock, the two port writes where the record stands, then its own calls on memory */
 
 iddesmar_seq iddesmar_seq_new(void);
 iddesmar_seq_answer iddesmar_seq_reset(iddesmar_seq seq);
@@ -210,8 +220,8 @@ iddesmar_seq_answer iddesmar_seq_set_clock_change_pending(iddesmar_seq seq);
 iddesmar_seq_answer iddesmar_seq_poll_clock_change(iddesmar_seq seq);
 iddesmar_answer iddesmar_seq_read_address(iddesmar_seq seq);
 iddesmar_answer iddesmar_seq_read_data(iddesmar_seq seq);
-iddesmar_seq_answer iddesmar_seq_write_address(iddesmar_seq seq, uint8_t byte);
-iddesmar_seq_answer iddesmar_seq_write_data(iddesmar_seq seq, uint8_t byte);
+iddesmar_answer iddesmar_seq_write_address(iddesmar_seq *seq, uint8_t byte);
+iddesmar_answer iddesmar_seq_write_data(iddesmar_seq *seq, uint8_t byte);
 iddesmar_answer iddesmar_seq_cpu_read_u8(iddesmar_seq seq, IDDESMAR_SEEN, size_t plane, size_t offset, uint8_t a0);
 iddesmar_answer iddesmar_seq_peek_u8(iddesmar_seq seq, IDDESMAR_SEEN, size_t plane, size_t offset, uint8_t a0);
 iddesmar_answer iddesmar_seq_gc_read_u8(iddesmar_seq seq, IDDESMAR_SEEN, size_t plane, size_t offset, uint8_t a0);

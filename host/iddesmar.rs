@@ -249,12 +249,13 @@ macro_rules! calls {
 type Seen = *const u8;
 type Lent = *mut u8;
 
+// A name that ends in _2 is that of a call which took its records by value before: a module of an older version asks for the older name, and is refused when it is linked.
 calls! {
-    fn iddesmar_gc_cpu_read_u8(&mut ControllerRecord, SequencerRecord; Seen, Seen; usize, u8) -> Answer;
-    fn iddesmar_gc_cpu_write_u8(&mut ControllerRecord, SequencerRecord; Lent, Lent; usize, u8, u8) -> Stored;
-    fn iddesmar_gc_cpu_peek_u8(ControllerRecord, SequencerRecord; Seen, Seen; usize, u8) -> Answer;
-    fn iddesmar_gc_show_pixels(ControllerRecord, SequencerRecord; Seen, Seen; usize) -> Shown;
-    fn iddesmar_gc_serialize(ControllerRecord, SequencerRecord; Seen, Seen; usize) -> Shown;
+    fn iddesmar_gc_cpu_read_u8_2(&mut ControllerRecord, &SequencerRecord; Seen, Seen; usize, u8) -> Answer;
+    fn iddesmar_gc_cpu_write_u8_2(&mut ControllerRecord, &SequencerRecord; Lent, Lent; usize, u8, u8) -> Stored;
+    fn iddesmar_gc_cpu_peek_u8_2(&ControllerRecord, &SequencerRecord; Seen, Seen; usize, u8) -> Answer;
+    fn iddesmar_gc_show_pixels_2(&ControllerRecord, &SequencerRecord; Seen, Seen; usize) -> Shown;
+    fn iddesmar_gc_serialize_2(&ControllerRecord, &SequencerRecord; Seen, Seen; usize) -> Shown;
     fn iddesmar_seq_cpu_read_u8(SequencerRecord; Seen, Seen; usize, usize, u8) -> Answer;
     fn iddesmar_seq_peek_u8(SequencerRecord; Seen, Seen; usize, usize, u8) -> Answer;
     fn iddesmar_seq_gc_read_u8(SequencerRecord; Seen, Seen; usize, usize, u8) -> Answer;
@@ -295,8 +296,8 @@ extern "C" {
     fn iddesmar_seq_poll_clock_change(seq: SequencerRecord) -> SequencerAnswer;
     fn iddesmar_seq_read_address(seq: SequencerRecord) -> Answer;
     fn iddesmar_seq_read_data(seq: SequencerRecord) -> Answer;
-    fn iddesmar_seq_write_address(seq: SequencerRecord, byte: u8) -> SequencerAnswer;
-    fn iddesmar_seq_write_data(seq: SequencerRecord, byte: u8) -> SequencerAnswer;
+    fn iddesmar_seq_write_address_2(seq: &mut SequencerRecord, byte: u8) -> Answer;
+    fn iddesmar_seq_write_data_2(seq: &mut SequencerRecord, byte: u8) -> Answer;
 }
 
 /// A call over five slices that are to be read: each goes over as a pointer and its own length.
@@ -482,8 +483,7 @@ impl<B: AsRef<[u8]> + AsMut<[u8]>> Sequencer<B> {
     }
 
     pub fn write_address(&mut self, byte: u8) -> Result<(), Refusal> {
-        let left = asked!(iddesmar_seq_write_address(self.record, byte));
-        self.moved(left).done()
+        asked!(iddesmar_seq_write_address_2(&mut self.record, byte)).done()
     }
 
     pub fn read_data(&self) -> Result<u8, Refusal> {
@@ -491,8 +491,7 @@ impl<B: AsRef<[u8]> + AsMut<[u8]>> Sequencer<B> {
     }
 
     pub fn write_data(&mut self, data: u8) -> Result<(), Refusal> {
-        let left = asked!(iddesmar_seq_write_data(self.record, data));
-        self.moved(left).done()
+        asked!(iddesmar_seq_write_data_2(&mut self.record, data)).done()
     }
 
     pub fn cpu_read_u8(&self, plane: usize, offset: usize, a0: bool) -> Result<u8, Refusal> {
@@ -607,16 +606,16 @@ impl GraphicsController {
     }
 
     pub fn cpu_read_u8<B: AsRef<[u8]> + AsMut<[u8]>>(&mut self, seq: &Sequencer<B>, address: usize, page_select: PageSelect) -> Result<u8, Refusal> {
-        seen!(iddesmar_gc_cpu_read_u8(&mut self.record, seq.record; seq.vram; address, page_select as u8)).byte()
+        seen!(iddesmar_gc_cpu_read_u8_2(&mut self.record, &seq.record; seq.vram; address, page_select as u8)).byte()
     }
 
     pub fn cpu_peek_u8<B: AsRef<[u8]> + AsMut<[u8]>>(&self, seq: &Sequencer<B>, address: usize, page_select: PageSelect) -> Result<u8, Refusal> {
-        seen!(iddesmar_gc_cpu_peek_u8(self.record, seq.record; seq.vram; address, page_select as u8)).byte()
+        seen!(iddesmar_gc_cpu_peek_u8_2(&self.record, &seq.record; seq.vram; address, page_select as u8)).byte()
     }
 
     /// How many bits of each plane's byte changed, at the offset that the address leads to: `[0; 4]` leaves a painter nothing to draw.
     pub fn cpu_write_u8<B: AsRef<[u8]> + AsMut<[u8]>>(&mut self, seq: &mut Sequencer<B>, address: usize, page_select: PageSelect, byte: u8) -> Result<[u8; 4], Refusal> {
-        lent!(iddesmar_gc_cpu_write_u8(&mut self.record, seq.record; seq.vram; address, page_select as u8, byte)).changed()
+        lent!(iddesmar_gc_cpu_write_u8_2(&mut self.record, &seq.record; seq.vram; address, page_select as u8, byte)).changed()
     }
 
     /// The eight pixels of a plane offset, the leftmost first, by the shift mode; it serves all four, and is never refused with `Shift`.
@@ -628,11 +627,11 @@ impl GraphicsController {
     ///
     /// The last two read planes, never the picture, at the offset as it stands, whatever Memory Mode, map select, masks and odd/even are. Nothing moves.
     pub fn show_pixels<B: AsRef<[u8]> + AsMut<[u8]>>(&self, seq: &Sequencer<B>, offset: usize) -> Result<[u8; 8], Refusal> {
-        seen!(iddesmar_gc_show_pixels(self.record, seq.record; seq.vram; offset)).pixels()
+        seen!(iddesmar_gc_show_pixels_2(&self.record, &seq.record; seq.vram; offset)).pixels()
     }
 
     /// The older show: the same in Standard and Unused; in CGACompatible and Chain4 it is refused with `Shift`.
     pub fn serialize<B: AsRef<[u8]> + AsMut<[u8]>>(&self, seq: &Sequencer<B>, offset: usize) -> Result<[u8; 8], Refusal> {
-        seen!(iddesmar_gc_serialize(self.record, seq.record; seq.vram; offset)).pixels()
+        seen!(iddesmar_gc_serialize_2(&self.record, &seq.record; seq.vram; offset)).pixels()
     }
 }

@@ -151,7 +151,7 @@ static iddesmar_stored seq_store(u64 operation, iddesmar_seq s, size_t plane, si
 static iddesmar_stored cpu_write(iddesmar_gc *g, iddesmar_seq s, size_t address, uint8_t page, uint8_t byte) {
     iddesmar_mapped m = iddesmar_gc_map_address(*g, address, page);
     column before = column_at(m.number == IDDESMAR_DONE ? stored_at(s, m.offset) : N);
-    return counted(iddesmar_gc_cpu_write_u8(g, s, ALL, address, page, byte), before);
+    return counted(iddesmar_gc_cpu_write_u8(g, &s, ALL, address, page, byte), before);
 }
 
 /* The shift mode, bits 5 and 6 of Mode. */
@@ -183,7 +183,7 @@ static unsigned unpacked(const iddesmar_memory *m, unsigned mode, size_t offset,
 static iddesmar_shown show(iddesmar_gc g, iddesmar_seq s, const iddesmar_memory *m, size_t offset) {
     unsigned mode = shift_mode(g);
     int past = offset >= (mode == CGA ? m->n - 1 : m->n);
-    iddesmar_shown is = iddesmar_gc_show_pixels(g, s, IDDESMAR_ALL(m), offset);
+    iddesmar_shown is = iddesmar_gc_show_pixels(&g, &s, IDDESMAR_ALL(m), offset);
     expect("a show's number", is.number, past ? IDDESMAR_PLACE : IDDESMAR_DONE);
     for (int i = 0; i < 8; i++) expect("a pixel shown", is.pixels[i], past ? 0 : unpacked(m, mode, offset, i));
     return is;
@@ -213,8 +213,8 @@ static void sequencer_call(u64 operation, const u64 *x) {
     case 14: moved(iddesmar_seq_poll_clock_change(seq)); break;
     case 15: answered(iddesmar_seq_read_address(seq)); break;
     case 16: answered(iddesmar_seq_read_data(seq)); break;
-    case 17: moved(iddesmar_seq_write_address(seq, (uint8_t)x[0])); break;
-    case 18: moved(iddesmar_seq_write_data(seq, (uint8_t)x[0])); break;
+    case 17: answered(iddesmar_seq_write_address(&seq, (uint8_t)x[0])); break;
+    case 18: answered(iddesmar_seq_write_data(&seq, (uint8_t)x[0])); break;
     case 19: answered(iddesmar_seq_cpu_read_u8(seq, ALL, x[0], x[1], x[2] != 0)); break;
     case 20: answered(iddesmar_seq_peek_u8(seq, ALL, x[0], x[1], x[2] != 0)); break;
     case 21: answered(iddesmar_seq_gc_read_u8(seq, ALL, x[0], x[1], x[2] != 0)); break;
@@ -237,10 +237,10 @@ static void controller_call(u64 operation, const u64 *x) {
     case 35: answered(iddesmar_gc_write_address(&gc, (uint8_t)x[0])); break;
     case 36: answered(iddesmar_gc_write_data(&gc, (uint8_t)x[0])); break;
     case 37: mapped(iddesmar_gc_map_address(gc, x[0], x[1] != 0)); break;
-    case 38: answered(iddesmar_gc_cpu_read_u8(&gc, seq, ALL, x[0], x[1] != 0)); break;
-    case 39: answered(iddesmar_gc_cpu_peek_u8(gc, seq, ALL, x[0], x[1] != 0)); break;
+    case 38: answered(iddesmar_gc_cpu_read_u8(&gc, &seq, ALL, x[0], x[1] != 0)); break;
+    case 39: answered(iddesmar_gc_cpu_peek_u8(&gc, &seq, ALL, x[0], x[1] != 0)); break;
     case 40: stored(cpu_write(&gc, seq, x[0], x[1] != 0, (uint8_t)x[2])); break;
-    case 41: shown(iddesmar_gc_serialize(gc, seq, ALL, x[0])); break;
+    case 41: shown(iddesmar_gc_serialize(&gc, &seq, ALL, x[0])); break;
     case 46: pixels_shown(show(gc, seq, &memory, x[0])); break;
     default: printf(" unknown\n"); break; /* 42 to 45 set up what no port reaches, and no host has them */
     }
@@ -314,14 +314,14 @@ static void controller_accesses(guarded *g) {
     for (int i = 0; i < 4; i++) planes[i][0] = (uint8_t)(17 * (i + 1));
     for (int i = 0; i < 2; i++) {
         g->gc.mode = (uint8_t)(8 * i);
-        for (int k = 0; k < 5 + i; k++) iddesmar_gc_cpu_read_u8(&g->gc, seq, ALL, 0xA0000, 0);
+        for (int k = 0; k < 5 + i; k++) iddesmar_gc_cpu_read_u8(&g->gc, &seq, ALL, 0xA0000, 0);
     }
     for (int i = 0; i < 4; i++) {
         expect("a latch", g->gc.latches[i], (u64)(17 * (i + 1)));
         g->gc.mode = (uint8_t)i;
         for (int k = 0; k < 1 + i; k++) cpu_write(&g->gc, seq, 0xA0000, 0, 0);
     }
-    for (int k = 0; k < 3; k++) iddesmar_gc_cpu_read_u8(&g->gc, seq, ALL, 0x9FFFF, 0);
+    for (int k = 0; k < 3; k++) iddesmar_gc_cpu_read_u8(&g->gc, &seq, ALL, 0x9FFFF, 0);
     for (int k = 0; k < 4; k++) cpu_write(&g->gc, seq, 0xC0000, 0, 0);
     const uint32_t *counters = &g->gc.stats.mode_0_writes;
     for (int i = 0; i < 7; i++) expect("a counter", counters[i], (u64)(1 + i));
@@ -331,8 +331,8 @@ static void sequencer_fields(void) {
     static const uint8_t kept[5] = {2, 0x09, 13, 0x2A, 0x0E};
     const uint8_t *registers = &seq.reset;
     for (int i = 0; i < 5; i++) {
-        seq = iddesmar_seq_write_address(seq, (uint8_t)i).seq;
-        seq = iddesmar_seq_write_data(seq, kept[i]).seq;
+        iddesmar_seq_write_address(&seq, (uint8_t)i);
+        iddesmar_seq_write_data(&seq, kept[i]);
         expect("address_byte", seq.address_byte, (u64)i);
     }
     for (int i = 0; i < 5; i++) {
@@ -463,7 +463,7 @@ static void worked_shows(iddesmar_gc g, iddesmar_seq s) {
         int standard = mode == STANDARD || mode == UNUSED;
         g = in_mode(g, mode);
         show_answers("the worked example", show(g, s, &memory, 0), IDDESMAR_DONE, pixels[mode]);
-        show_answers("its older show", iddesmar_gc_serialize(g, s, ALL, 0), standard ? IDDESMAR_DONE : IDDESMAR_SHIFT, standard ? pixels[mode] : no_pixels);
+        show_answers("its older show", iddesmar_gc_serialize(&g, &s, ALL, 0), standard ? IDDESMAR_DONE : IDDESMAR_SHIFT, standard ? pixels[mode] : no_pixels);
         expect("a show of the last offset but one", show(g, s, &memory, N - 2).number, IDDESMAR_DONE);
         expect("a show of the last offset", show(g, s, &memory, N - 1).number, mode == CGA ? IDDESMAR_PLACE : IDDESMAR_DONE);
         show_answers("a show past the planes", show(g, s, &memory, N), IDDESMAR_PLACE, no_pixels);
@@ -537,18 +537,18 @@ static void unknown_registers(void) {
     expect("write_data of register 9", iddesmar_gc_write_data(&gc, 5).number, IDDESMAR_STATE);
     store_answers("a write with register 9", cpu_write(&gc, seq, 0xA0000, 0, 5), IDDESMAR_STATE, nothing);
     store_answers("a write outside the window with register 9", cpu_write(&gc, seq, 0x9FFFF, 0, 5), IDDESMAR_STATE, nothing);
-    expect("a read outside the window with register 9", iddesmar_gc_cpu_read_u8(&gc, seq, ALL, 0x9FFFF, 0).number, IDDESMAR_STATE);
+    expect("a read outside the window with register 9", iddesmar_gc_cpu_read_u8(&gc, &seq, ALL, 0x9FFFF, 0).number, IDDESMAR_STATE);
     expect("refused_accesses with register 9", gc.stats.refused_accesses, 0);
-    expect("an older show with register 9", iddesmar_gc_serialize(gc, seq, ALL, 0).number, IDDESMAR_STATE);
-    show_answers("a show with register 9", iddesmar_gc_show_pixels(gc, seq, ALL, 0), IDDESMAR_STATE, no_pixels);
+    expect("an older show with register 9", iddesmar_gc_serialize(&gc, &seq, ALL, 0).number, IDDESMAR_STATE);
+    show_answers("a show with register 9", iddesmar_gc_show_pixels(&gc, &seq, ALL, 0), IDDESMAR_STATE, no_pixels);
     expect("register_selected", gc.register_selected, 9);
     expect("reset of register 9", iddesmar_gc_reset(&gc).number, IDDESMAR_DONE);
     expect("register_selected after reset", gc.register_selected, 0);
     seq.register_selected = 6;
     expect("clock with register 6", iddesmar_seq_clock(seq).number, IDDESMAR_STATE);
-    expect("a read with register 6", iddesmar_gc_cpu_read_u8(&gc, seq, ALL, 0xA0000, 0).number, IDDESMAR_STATE);
+    expect("a read with register 6", iddesmar_gc_cpu_read_u8(&gc, &seq, ALL, 0xA0000, 0).number, IDDESMAR_STATE);
     store_answers("a write with register 6", cpu_write(&gc, seq, 0xA0000, 0, 5), IDDESMAR_STATE, nothing);
-    show_answers("a show with register 6", iddesmar_gc_show_pixels(gc, seq, ALL, 0), IDDESMAR_STATE, no_pixels);
+    show_answers("a show with register 6", iddesmar_gc_show_pixels(&gc, &seq, ALL, 0), IDDESMAR_STATE, no_pixels);
     expect("reset of register 6", iddesmar_seq_reset(seq).answer.number, IDDESMAR_DONE);
 }
 
@@ -604,6 +604,17 @@ static void gc_refused(const char *what, iddesmar_answer a, unsigned number, con
     same(what, left, &given, sizeof given);
 }
 
+/* The sequencer's port writes on a copy of a record, which comes back beside the answer. */
+static iddesmar_seq_answer seq_address(iddesmar_seq s, uint8_t byte) {
+    iddesmar_answer a = iddesmar_seq_write_address(&s, byte);
+    return (iddesmar_seq_answer){a, s};
+}
+
+static iddesmar_seq_answer seq_data(iddesmar_seq s, uint8_t byte) {
+    iddesmar_answer a = iddesmar_seq_write_data(&s, byte);
+    return (iddesmar_seq_answer){a, s};
+}
+
 static void seq_refused(const char *what, iddesmar_seq_answer a, iddesmar_seq given) {
     expect(what, a.answer.number, IDDESMAR_STATE);
     expect(what, a.answer.value, 0);
@@ -618,9 +629,9 @@ static void accesses_refused(unsigned number, iddesmar_gc given, iddesmar_seq s,
     iddesmar_gc left = given;
     uint32_t raised = number == IDDESMAR_WINDOW || number == IDDESMAR_OFFSET;
     given.stats.refused_accesses += raised;
-    gc_refused("a refused read", iddesmar_gc_cpu_read_u8(&left, s, LENT(m, shorter), address, 1), number, &left, given);
+    gc_refused("a refused read", iddesmar_gc_cpu_read_u8(&left, &s, LENT(m, shorter), address, 1), number, &left, given);
     given.stats.refused_accesses += raised;
-    store_answers("a refused write", iddesmar_gc_cpu_write_u8(&left, s, LENT(m, shorter), address, 1, 0x3C), number, nothing);
+    store_answers("a refused write", iddesmar_gc_cpu_write_u8(&left, &s, LENT(m, shorter), address, 1, 0x3C), number, nothing);
     same("a record after a refused write", &left, &given, sizeof given);
 }
 
@@ -646,8 +657,8 @@ static void shows_refused(unsigned number, iddesmar_gc g, iddesmar_seq s, iddesm
     for (unsigned mode = STANDARD; mode <= UNUSED; mode++) {
         unsigned older = number == IDDESMAR_PLACE && (mode == CGA || mode == CHAIN4) ? IDDESMAR_SHIFT : number;
         g = in_mode(g, mode);
-        show_answers("a refused show", iddesmar_gc_show_pixels(g, s, LENT(m, shorter), offset), number, no_pixels);
-        show_answers("a refused older show", iddesmar_gc_serialize(g, s, LENT(m, shorter), offset), older, no_pixels);
+        show_answers("a refused show", iddesmar_gc_show_pixels(&g, &s, LENT(m, shorter), offset), number, no_pixels);
+        show_answers("a refused older show", iddesmar_gc_serialize(&g, &s, LENT(m, shorter), offset), older, no_pixels);
     }
 }
 
@@ -696,8 +707,8 @@ static void gc_unfit(iddesmar_gc given, iddesmar_seq s) {
 }
 
 static void seq_unfit(iddesmar_seq given) {
-    seq_refused("a refused write_address", iddesmar_seq_write_address(given, 7), given);
-    seq_refused("a refused write_data", iddesmar_seq_write_data(given, 7), given);
+    seq_refused("a refused write_address", seq_address(given, 7), given);
+    seq_refused("a refused write_data", seq_data(given, 7), given);
     seq_refused("a refused set_clock_change_pending", iddesmar_seq_set_clock_change_pending(given), given);
     seq_refused("a refused poll_clock_change", iddesmar_seq_poll_clock_change(given), given);
     accesses_refused(IDDESMAR_STATE, fitting_gc(given.clock_change_pending), given, memory, 0, 0xA0000);
@@ -739,7 +750,7 @@ static void shows_of_short_parts(iddesmar_gc g, iddesmar_seq s) {
     for (int part = 0; part < 5; part++) {
         size_t n[5] = {N, N, N, N, 8 * N};
         n[part]--;
-        iddesmar_shown is = iddesmar_gc_show_pixels(g, s, planes[0], n[0], planes[1], n[1], planes[2], n[2], planes[3], n[3], picture, n[4], 0);
+        iddesmar_shown is = iddesmar_gc_show_pixels(&g, &s, planes[0], n[0], planes[1], n[1], planes[2], n[2], planes[3], n[3], picture, n[4], 0);
         show_answers("a show of a part that is too short", is, IDDESMAR_MEMORY, no_pixels);
     }
 }
@@ -775,17 +786,17 @@ static void acceptances(int seed) {
     unsigned set = seed != 0;
     iddesmar_gc g = fitting_gc(seed);
     iddesmar_seq s = fitting_seq(seed);
-    spare_kept("spare after a read", iddesmar_gc_cpu_read_u8(&g, s, ALL, 0xA0000, 0).number, &g, seed);
+    spare_kept("spare after a read", iddesmar_gc_cpu_read_u8(&g, &s, ALL, 0xA0000, 0).number, &g, seed);
     spare_kept("spare after a write", cpu_write(&g, s, 0xA0000, 0, 0x3C).number, &g, seed);
     spare_kept("spare after write_address", iddesmar_gc_write_address(&g, 8).number, &g, seed);
     spare_kept("spare after write_data", iddesmar_gc_write_data(&g, 0x3C).number, &g, seed);
     expect("bitmask", g.bitmask, 0x3C);
     spare_kept("spare after reset", iddesmar_gc_reset(&g).number, &g, seed);
     expect("bitmask after reset", g.bitmask, 0);
-    marked("the mark after write_address", iddesmar_seq_write_address(s, 2), 0, set);
-    s = iddesmar_seq_write_address(s, 2).seq;
+    marked("the mark after write_address", seq_address(s, 2), 0, set);
+    iddesmar_seq_write_address(&s, 2);
     s.clock_change_pending = (uint8_t)seed;
-    marked("the mark after data for Map Mask", iddesmar_seq_write_data(s, 15), 0, set);
+    marked("the mark after data for Map Mask", seq_data(s, 15), 0, set);
     marked("the mark, set", iddesmar_seq_set_clock_change_pending(s), 0, 1);
     marked("the mark, polled", iddesmar_seq_poll_clock_change(s), set, 0);
     marked("the mark after reset", iddesmar_seq_reset(s), 0, 0);
@@ -852,8 +863,8 @@ static void page_flag(int flag) {
     expect("offset by page", here.offset, low.offset + set);
     planes[0][low.offset] = 0x11;
     planes[0][low.offset + 1] = 0x22;
-    expect("a read by page", iddesmar_gc_cpu_read_u8(&g, s, ALL, 0xA0008, page).value, set ? 0x22 : 0x11);
-    expect("a peek by page", iddesmar_gc_cpu_peek_u8(g, s, ALL, 0xA0008, page).value, set ? 0x22 : 0x11);
+    expect("a read by page", iddesmar_gc_cpu_read_u8(&g, &s, ALL, 0xA0008, page).value, set ? 0x22 : 0x11);
+    expect("a peek by page", iddesmar_gc_cpu_peek_u8(&g, &s, ALL, 0xA0008, page).value, set ? 0x22 : 0x11);
     expect("a write by page", cpu_write(&g, s, 0xA0008, page, 0x33).number, IDDESMAR_DONE);
     expect("a byte of the low page", planes[0][low.offset], set ? 0x11 : 0x33);
     expect("a byte of the high page", planes[0][low.offset + 1], set ? 0x33 : 0x22);

@@ -1,4 +1,4 @@
-// The processor's accesses on a record that is updated where it stands, and the same by value.
+// The processor's accesses, both records lent: a read and a write update the controller's where it stands, and the other three leave it alone.
 ghost use mathlib.Core.Path.{_≡_};
 ghost use mathlib.Core.List.{[]};
 ghost use Rattle.machine.specs.Memory.{before, after};
@@ -12,27 +12,18 @@ ghost use Rattle.host_calls.specs.Hosted.{held, cpuHosted};
 use answers::Answer;
 use answers::Shown;
 use answers::Stored;
-use answers::of_byte;
-use answers::of_part;
-use answers::of_shown;
-use answers::unknown;
-use answers::unknown_shown;
-use graphics_controller::cpu_peek_u8;
-use graphics_controller::show_pixels;
+use host_calls::peek_of;
 use host_calls::read_of;
+use host_calls::serialize_of;
+use host_calls::show_of;
 use host_calls::write_of;
 use host_records::record::ControllerRecord;
 use host_records::record::SequencerRecord;
-use host_records::record::is_set;
-use host_records::record::known;
-use host_records::record::to_controller;
-use host_records::record::to_sequencer;
-use machine_types::PlaneOffset;
 
 #[no_mangle]
-pub extern "C" fn iddesmar_gc_cpu_read_u8(
+pub extern "C" fn iddesmar_gc_cpu_read_u8_2(
     gc: &mut ControllerRecord,
-    seq: SequencerRecord,
+    seq: &SequencerRecord,
     p0: &[u8],
     p1: &[u8],
     p2: &[u8],
@@ -42,17 +33,17 @@ pub extern "C" fn iddesmar_gc_cpu_read_u8(
     page: u8,
 ) -> Answer
     ensures { λ r. ⌜ outcome (answerSaid r) (held (now (gc .exit)) (before p0 p1 p2 p3 picture))
-        ≡ cpuHosted (now (gc .entry)) seq (before p0 p1 p2 p3 picture) (one 0) (cpuRead address (isSet page)) ⌝ }
+        ≡ cpuHosted (now (gc .entry)) (now (seq .entry)) (before p0 p1 p2 p3 picture) (one 0) (cpuRead address (isSet page)) ⌝ }
 {
-    let w = read_of(*gc, seq, p0, p1, p2, p3, picture, address, page);
+    let w = read_of(*gc, *seq, p0, p1, p2, p3, picture, address, page);
     *gc = w.gc;
     w.answer
 }
 
 #[no_mangle]
-pub extern "C" fn iddesmar_gc_cpu_write_u8(
+pub extern "C" fn iddesmar_gc_cpu_write_u8_2(
     gc: &mut ControllerRecord,
-    seq: SequencerRecord,
+    seq: &SequencerRecord,
     p0: &mut [u8],
     p1: &mut [u8],
     p2: &mut [u8],
@@ -63,18 +54,18 @@ pub extern "C" fn iddesmar_gc_cpu_write_u8(
     byte: u8,
 ) -> Stored
     ensures { λ r. ⌜ StoredAs r (held (now (gc .exit)) (after p0 p1 p2 p3 picture))
-        (cpuHosted (now (gc .entry)) seq (before p0 p1 p2 p3 picture) (changes 0 0 0 0) (cpuWrite address (isSet page) byte)) ⌝ }
+        (cpuHosted (now (gc .entry)) (now (seq .entry)) (before p0 p1 p2 p3 picture) (changes 0 0 0 0) (cpuWrite address (isSet page) byte)) ⌝ }
 {
-    let w = write_of(*gc, seq, p0, p1, p2, p3, picture, address, page, byte);
+    let w = write_of(*gc, *seq, p0, p1, p2, p3, picture, address, page, byte);
     gc.stats = w.stats;
     w.answer
 }
 
 // Plane 0's byte, or under chain-four that of plane offset mod 4; nothing moves.
 #[no_mangle]
-pub extern "C" fn iddesmar_gc_cpu_peek_u8(
-    gc: ControllerRecord,
-    seq: SequencerRecord,
+pub extern "C" fn iddesmar_gc_cpu_peek_u8_2(
+    gc: &ControllerRecord,
+    seq: &SequencerRecord,
     p0: &[u8],
     p1: &[u8],
     p2: &[u8],
@@ -83,23 +74,17 @@ pub extern "C" fn iddesmar_gc_cpu_peek_u8(
     address: usize,
     page: u8,
 ) -> Answer
-    ensures { λ r. ⌜ outcome (answerSaid r) (held gc (before p0 p1 p2 p3 picture)) ≡ cpuHosted gc seq (before p0 p1 p2 p3 picture) (one 0) (cpuPeek address (isSet page)) ⌝ }
+    ensures { λ r. ⌜ outcome (answerSaid r) (held (now (gc .entry)) (before p0 p1 p2 p3 picture))
+        ≡ cpuHosted (now (gc .entry)) (now (seq .entry)) (before p0 p1 p2 p3 picture) (one 0) (cpuPeek address (isSet page)) ⌝ }
 {
-    if !known(gc, seq) {
-        return unknown();
-    }
-    let controller = to_controller(gc);
-    let seq = to_sequencer(seq);
-    let high = is_set(page);
-    let answer = cpu_peek_u8(controller, seq, p0, p1, p2, p3, picture, address, high);
-    of_byte(answer)
+    peek_of(*gc, *seq, p0, p1, p2, p3, picture, address, page)
 }
 
 // The eight pixels of an offset, by the older show: refused in two shift modes.
 #[no_mangle]
-pub extern "C" fn iddesmar_gc_serialize(
-    gc: ControllerRecord,
-    seq: SequencerRecord,
+pub extern "C" fn iddesmar_gc_serialize_2(
+    gc: &ControllerRecord,
+    seq: &SequencerRecord,
     p0: &[u8],
     p1: &[u8],
     p2: &[u8],
@@ -107,33 +92,16 @@ pub extern "C" fn iddesmar_gc_serialize(
     picture: &[u8],
     offset: usize,
 ) -> Shown
-    ensures { λ r. ⌜ r ≡ shownOf (cpuHosted gc seq (before p0 p1 p2 p3 picture) (part []) (serialize offset) .answer) ⌝ }
+    ensures { λ r. ⌜ r ≡ shownOf (cpuHosted (now (gc .entry)) (now (seq .entry)) (before p0 p1 p2 p3 picture) (part []) (serialize offset) .answer) ⌝ }
 {
-    if !known(gc, seq) {
-        return unknown_shown();
-    }
-    let controller = to_controller(gc);
-    let seq = to_sequencer(seq);
-    let mut number = 0u8;
-    let part = graphics_controller::serialize(
-        controller,
-        seq,
-        p0,
-        p1,
-        p2,
-        p3,
-        picture,
-        PlaneOffset(offset),
-        &mut number,
-    );
-    of_part(number, part)
+    serialize_of(*gc, *seq, p0, p1, p2, p3, picture, offset)
 }
 
 // The eight pixels of an offset, in every shift mode.
 #[no_mangle]
-pub extern "C" fn iddesmar_gc_show_pixels(
-    gc: ControllerRecord,
-    seq: SequencerRecord,
+pub extern "C" fn iddesmar_gc_show_pixels_2(
+    gc: &ControllerRecord,
+    seq: &SequencerRecord,
     p0: &[u8],
     p1: &[u8],
     p2: &[u8],
@@ -141,13 +109,8 @@ pub extern "C" fn iddesmar_gc_show_pixels(
     picture: &[u8],
     offset: usize,
 ) -> Shown
-    ensures { λ r. ⌜ r ≡ pixelsShown (cpuHosted gc seq (before p0 p1 p2 p3 picture) (shown (shiftMode (controllerOf gc .registers)) noPixels) (showPixels offset) .answer) ⌝ }
+    ensures { λ r. ⌜ r ≡ pixelsShown (cpuHosted (now (gc .entry)) (now (seq .entry)) (before p0 p1 p2 p3 picture)
+        (shown (shiftMode (controllerOf (now (gc .entry)) .registers)) noPixels) (showPixels offset) .answer) ⌝ }
 {
-    if !known(gc, seq) {
-        return unknown_shown();
-    }
-    let controller = to_controller(gc);
-    let seq = to_sequencer(seq);
-    let offset = PlaneOffset(offset);
-    of_shown(show_pixels(controller, seq, p0, p1, p2, p3, picture, offset))
+    show_of(*gc, *seq, p0, p1, p2, p3, picture, offset)
 }

@@ -27,6 +27,12 @@ use Rattle.host_calls.proofs.read_of.Reads as read-of
 use Rattle.host_calls.proofs.read_of.Kinds as read-of-kinds
 use Rattle.host_calls.proofs.write_of.Reads as write-of
 use Rattle.host_calls.proofs.write_of.Kinds as write-of-kinds
+use Rattle.host_calls.proofs.peek_of.Reads as peek-of
+use Rattle.host_calls.proofs.peek_of.Kinds as peek-of-kinds
+use Rattle.host_calls.proofs.serialize_of.Reads as serialize-of
+use Rattle.host_calls.proofs.serialize_of.Kinds as serialize-of-kinds
+use Rattle.host_calls.proofs.show_of.Reads as show-of
+use Rattle.host_calls.proofs.show_of.Kinds as show-of-kinds
 
 -- what a call leaves of a record beside the memory
 gc-of : {o : Outcome Held} {a b : Said} {d f : Held} → outcome a d ≡ o → outcome b f ≡ o → d .gc ≡ f .gc
@@ -67,3 +73,15 @@ module _ (κs : Lfts 5) (a : Dens κs write-of-kinds.ps) where
   write-of-determined r r′ e e′ p q =
       let left = p .1 ∙ sym (q .1) in
       (ap₂ (λ (a : Stored) (t : StatsRecord). record { answer = a; stats = t }) (p .0 ∙ sym (q .0)) (ap (λ (h : Held). h .gc .stats) left), ap (λ (h : Held). h .memory) left)
+
+module _ (κs : Lfts 5) (a : Dens κs peek-of-kinds.ps) where
+  pub peek-of-determined : OneAnswer (peek-of.Post κs a)
+  peek-of-determined r r′ e e′ p q = answer-is r r′ (answer-of p q)
+
+module _ (κs : Lfts 5) (a : Dens κs serialize-of-kinds.ps) where
+  pub serialize-of-determined : OneAnswer (serialize-of.Post κs a)
+  serialize-of-determined r r′ e e′ p q = p ∙ sym q
+
+module _ (κs : Lfts 5) (a : Dens κs show-of-kinds.ps) where
+  pub show-of-determined : OneAnswer (show-of.Post κs a)
+  show-of-determined r r′ e e′ p q = p ∙ sym q

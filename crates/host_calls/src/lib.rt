@@ -1,17 +1,27 @@
-// The calls that move a record where it stands, over a host's records and by value: the library puts back what they leave.
+// The calls that a host makes through a reference to a record, over its records and by value: the library puts back what they leave.
 ghost use mathlib.Core.Path.{_≡_};
+ghost use mathlib.Core.List.{[]};
 ghost use Rattle.machine.specs.Memory.{before, after};
-ghost use Rattle.machine.specs.Answers.{one, changes, outcome};
-ghost use Rattle.machine.specs.Calls.{cpuRead, cpuWrite, gcReset, gcWriteAddress, gcWriteData, seqWriteAddress, seqWriteData};
+ghost use Rattle.machine.specs.Answers.{one, part, changes, shown, noPixels, outcome};
+ghost use Rattle.machine.specs.Graphics.{shiftMode};
+ghost use Rattle.machine.specs.Calls.{cpuRead, cpuPeek, cpuWrite, serialize, showPixels, gcReset, gcWriteAddress, gcWriteData, seqWriteAddress, seqWriteData};
 ghost use Rattle.machine.specs.Step.{lifted, graphicsStep};
 ghost use Rattle.answers.specs.Answers.{answerSaid};
-ghost use Rattle.answers.specs.Wide.{StoredAs};
+ghost use Rattle.answers.specs.Wide.{shownOf, pixelsShown, StoredAs};
 ghost use Rattle.host_records.specs.Records.{isSet, withStats, controllerOf, controllerRecordOf};
 ghost use Rattle.host_calls.specs.Hosted.{held, cpuHosted, graphicsHosted, sequencerHosted};
+use answers::Answer;
+use answers::Shown;
 use answers::done;
 use answers::of_byte;
+use answers::of_part;
+use answers::of_shown;
+use answers::unknown;
+use answers::unknown_shown;
+use graphics_controller::cpu_peek_u8;
 use graphics_controller::cpu_read_u8;
 use graphics_controller::cpu_write_u8;
+use graphics_controller::show_pixels;
 use host_records::left::ControllerAnswer;
 use host_records::left::SequencerAnswer;
 use host_records::left::StatsAnswer;
@@ -30,6 +40,7 @@ use host_records::record::known_sequencer;
 use host_records::record::of_controller;
 use host_records::record::to_controller;
 use host_records::record::to_sequencer;
+use machine_types::PlaneOffset;
 
 // A read: the answer, and the record with its latches and counters.
 pub fn read_of(
@@ -95,6 +106,85 @@ pub fn write_of(
         byte,
     );
     of_cpu_store(r)
+}
+
+// Plane 0's byte, or under chain-four that of plane offset mod 4; nothing moves.
+pub fn peek_of(
+    gc: ControllerRecord,
+    seq: SequencerRecord,
+    p0: &[u8],
+    p1: &[u8],
+    p2: &[u8],
+    p3: &[u8],
+    picture: &[u8],
+    address: usize,
+    page: u8,
+) -> Answer
+    ensures { λ r. ⌜ outcome (answerSaid r) (held gc (before p0 p1 p2 p3 picture)) ≡ cpuHosted gc seq (before p0 p1 p2 p3 picture) (one 0) (cpuPeek address (isSet page)) ⌝ }
+{
+    if !known(gc, seq) {
+        return unknown();
+    }
+    let controller = to_controller(gc);
+    let seq = to_sequencer(seq);
+    let high = is_set(page);
+    let answer = cpu_peek_u8(controller, seq, p0, p1, p2, p3, picture, address, high);
+    of_byte(answer)
+}
+
+// The eight pixels of an offset, by the older show: refused in two shift modes.
+pub fn serialize_of(
+    gc: ControllerRecord,
+    seq: SequencerRecord,
+    p0: &[u8],
+    p1: &[u8],
+    p2: &[u8],
+    p3: &[u8],
+    picture: &[u8],
+    offset: usize,
+) -> Shown
+    ensures { λ r. ⌜ r ≡ shownOf (cpuHosted gc seq (before p0 p1 p2 p3 picture) (part []) (serialize offset) .answer) ⌝ }
+{
+    if !known(gc, seq) {
+        return unknown_shown();
+    }
+    let controller = to_controller(gc);
+    let seq = to_sequencer(seq);
+    let mut number = 0u8;
+    let part = graphics_controller::serialize(
+        controller,
+        seq,
+        p0,
+        p1,
+        p2,
+        p3,
+        picture,
+        PlaneOffset(offset),
+        &mut number,
+    );
+    of_part(number, part)
+}
+
+// The eight pixels of an offset, in every shift mode.
+pub fn show_of(
+    gc: ControllerRecord,
+    seq: SequencerRecord,
+    p0: &[u8],
+    p1: &[u8],
+    p2: &[u8],
+    p3: &[u8],
+    picture: &[u8],
+    offset: usize,
+) -> Shown
+    ensures { λ r. ⌜ r ≡ pixelsShown (cpuHosted gc seq (before p0 p1 p2 p3 picture) (shown (shiftMode (controllerOf gc .registers)) noPixels) (showPixels offset) .answer) ⌝ }
+{
+    if !known(gc, seq) {
+        return unknown_shown();
+    }
+    let controller = to_controller(gc);
+    let seq = to_sequencer(seq);
+    let offset = PlaneOffset(offset);
+    of_shown(show_pixels(controller, seq, p0, p1, p2, p3, picture, offset))
 }
 
 // Any record is taken; the host's own byte stays.

@@ -42,11 +42,11 @@ use Rattle.machine.specs.Step.{lifted, graphicsStep}
 use Rattle.host_records.specs.Records.{controllerOf, controllerRecordOf}
 use Rattle.answers.specs.Answers.{answerSaid}
 use Rattle.host_records.specs.declared.record.ControllerRecord.{ControllerRecord}
-use Rattle.host_records.specs.declared.left.ControllerAnswer.{ControllerAnswer}
 use Rattle.host_records.proofs.record.ControllerRecord as G
 use Rattle.host_records.proofs.record.ControllerRecord.Laws as G′
 use Rattle.answers.proofs.narrow.Answer as N
 use Rattle.answers.proofs.narrow.Answer.Laws as N′
+use Rattle.host_records.specs.declared.left.ControllerAnswer.{ControllerAnswer}
 use Rattle.host_records.proofs.left.ControllerAnswer as R
 use Rattle.host_records.proofs.left.ControllerAnswer.Laws as R′
 use Rattle.host_records.proofs.InPlace.{gval, head-is, rval, aval, an-is, gc-is}
@@ -86,6 +86,13 @@ module _ {M : Type 1} (𝓤 : URA M) (H : Heap 𝓤) (A : Atoms 𝓤) (W : Given
     abbrev vals : List Val × RestV
     vals = (vptr b o ∷ [], restv)
 
+    -- what the callee is handed: the records by value
+    abbrev handed : ControllerRecord × Rest
+    handed = (h, rest)
+
+    abbrev handedv : List Val × RestV
+    handedv = (gval h ∷ [], restv)
+
     abbrev Post : Val → SProp 𝓤
     Post = walkOf 𝓤 H A place.ended stayed (place.clauses 𝓤 H A at-mem run) .post (((κ0, tt), (q0, tt), tt, a, vals), tt)
 
@@ -94,14 +101,14 @@ module _ {M : Type 1} (𝓤 : URA M) (H : Heap 𝓤) (A : Atoms 𝓤) (W : Given
     κs = tt
 
     abbrev to : Called 𝓤 H A at-mem run .Ghost
-    to = ((κs, tt, tt, (h, rest), (gval h ∷ [], restv)), tt)
+    to = ((κs, tt, tt, handed, handedv), tt)
 
-    goes : ent 𝓤 (⋆ 𝓤 H A ((‵ ftrue) ∷ ‵ (owns (G.the-row ∷ []) (h, rest) (gval h ∷ [], restv)) ∷ [])) (Called 𝓤 H A at-mem run .pre to)
-    goes = qed W ((‵ ftrue) ∷ ‵ (owns (G.the-row ∷ []) (h, rest) (gval h ∷ [], restv)) ∷ []) ∵ join ! $ frame ! $ done !
+    goes : ent 𝓤 (⋆ 𝓤 H A ((‵ ftrue) ∷ ‵ (owns (G.the-row ∷ []) handed handedv) ∷ [])) (Called 𝓤 H A at-mem run .pre to)
+    goes = qed W ((‵ ftrue) ∷ ‵ (owns (G.the-row ∷ []) handed handedv) ∷ []) ∵ join ! $ frame ! $ done !
 
     -- of the callee's `ensured`, the clause alone: it has no `&mut`, so what is said of last values is dropped
-    said : (r : ControllerAnswer) → ent 𝓤 (ensured 𝓤 H A by-value.ended (by-value.clauses 𝓤 H A at-mem run) κs (h, rest) tt r) (fact 𝓤 (outcome (answerSaid (r .answer)) (r .gc) ≡ lifted (controllerRecordOf (h .spare)) (graphicsStep (controllerOf h) gcReset)))
-    said r = exE 𝓤 _ (λ ws. snd∗ 𝓤 (sem 𝓤 H A (lasts by-value.ended κs (h, rest) ws)) (fact 𝓤 (outcome (answerSaid (r .answer)) (r .gc) ≡ lifted (controllerRecordOf (h .spare)) (graphicsStep (controllerOf h) gcReset))))
+    said : (r : ControllerAnswer) → ent 𝓤 (ensured 𝓤 H A by-value.ended (by-value.clauses 𝓤 H A at-mem run) κs handed tt r) (fact 𝓤 (outcome (answerSaid (r .answer)) (r .gc) ≡ lifted (controllerRecordOf (h .spare)) (graphicsStep (controllerOf h) gcReset)))
+    said r = exE 𝓤 _ (λ ws. snd∗ 𝓤 (sem 𝓤 H A (lasts by-value.ended κs handed ws)) (fact 𝓤 (outcome (answerSaid (r .answer)) (r .gc) ≡ lifted (controllerRecordOf (h .spare)) (graphicsStep (controllerOf h) gcReset))))
 
     exits : (r : ControllerAnswer) → Is R.the-row r (rval r ∷ []) → outcome (answerSaid (r .answer)) (r .gc) ≡ lifted (controllerRecordOf (h .spare)) (graphicsStep (controllerOf h) gcReset) → ent 𝓤 (⋆ 𝓤 H A (‵ (fobs γ (G.the-row .coded .code (r .gc))) ∷ ‵ (fbor κ0 (Body (mem G.the-row) b o γ)) ∷ ‵ (flft κ0 q0) ∷ (‵ ftrue) ∷ [])) (Post (aval r))
     exits r is e =
@@ -119,21 +126,21 @@ module _ {M : Type 1} (𝓤 : URA M) (H : Heap 𝓤) (A : Atoms 𝓤) (W : Given
           qed W ((‵ (flft κ0 q0) ⊛ ‵ ftrue) ∷ ‵ (owns (MutRef (named 0) κ0 G.the-row ∷ []) a vals) ∷ []) ∵ enter ! C Λ code.function (vptr b o ∷ []) _ $
           alloc1 ! (λ l0. alloc1 ! (λ l1. alloc1 ! (λ l2. alloc1 ! (λ l3. alloc0 ! $ params1 ! $
           pass1 ! (init ! 4 refl (tt, tt)) $
-          pass0 ! $
-          -- the controller's borrow is opened
-          move ! (9 ∷ []) $ fsplit ! $ fsplit3 ! $ drop ! $ move ! (11 ∷ []) $ split ! $ move ! (2 ∷ 3 ∷ 0 ∷ []) $
+          pass0 ! $ move ! (8 ∷ 9 ∷ []) $
+          -- the borrow of the controller's record is opened
+          move ! (1 ∷ []) $ fsplit ! $ fsplit3 ! $ drop ! $ move ! (3 ∷ []) $ split ! $ move ! (2 ∷ 3 ∷ 0 ∷ []) $
           opens ! tt G.the-row {h = h} b o (λ vs. spelt ! G.the-row (Is G.the-row) (shows 𝓤 H A G.the-row) (LL.vals G.the-type G′.the-laws) (LL.tells G.the-type G′.the-laws) fullShare h vs b o $
           use1 W (‵ (fat fullShare G′.mir b o (gval h))) (W .laws .raw-at fullShare G′.mir b o (gval h)) $
-          move ! (1 ∷ []) $ peeks ! G.the-row (Is G.the-row) (shows 𝓤 H A G.the-row) h (gval h ∷ []) (λ g. move ! (1 ∷ 0 ∷ []) $
-          -- [the controller's cell; what it owns; the open borrow; obs; auth; the tokens; what the others own; the last local; …; room for _0; …]
-          assigns ! (of-opd ! (load ! (from ! (hop ! (look ! 11 refl) (stop !))) (look ! 0 refl))) (from ! (stop !)) (init ! 7 refl (LL.lawful G.the-type G′.the-laws 𝓤 H A W .typed h _ g .0)) $
+          move ! (1 ∷ []) $ peeks ! G.the-row (Is G.the-row) (shows 𝓤 H A G.the-row) h (gval h ∷ []) (λ h-is. move ! (1 ∷ 0 ∷ []) $
+          -- [its cell; what it owns; the open borrow; obs; auth; the tokens; what the others own; the last local; …; room for _0; …]
+          assigns ! (of-opd ! (load ! (from ! (hop ! (look ! 11 refl) (stop !))) (look ! 0 refl))) (from ! (stop !)) (init ! 7 refl (LL.lawful G.the-type G′.the-laws 𝓤 H A W .typed h _ h-is .0)) $
           -- the call
-          owned ! G.the-row (Is G.the-row) (LL.makes G.the-type G′.the-plain 𝓤 H A) h _ g $ move ! (0 ∷ 7 ∷ []) $ fjoin ! $ move ! (6 ∷ 0 ∷ []) $
+          owned ! G.the-row (Is G.the-row) (LL.makes G.the-type G′.the-plain 𝓤 H A) h _ h-is $ move ! (0 ∷ 7 ∷ []) $ fjoin ! $ move ! (6 ∷ 0 ∷ []) $
           use2 W (raw (Called 𝓤 H A at-mem run .pre to)) goes $
           calls-at ! fm (Called 𝓤 H A at-mem run) known to (and-then ! (load ! (from ! (stop !)) (look ! 6 refl)) (no-more !)) (λ w.
-          use1 W (later (some (λ (r : ControllerAnswer). ((‵ ftrue) ⊛ ‵ (R.the-row .own r (w ∷ []))) ⊛ raw (ensured 𝓤 H A by-value.ended (by-value.clauses 𝓤 H A at-mem run) κs (h, rest) tt r)))) (id⊢ 𝓤 _) $ await ! tt $ pick ! (λ r.
+          use1 W (later (some (λ (r : ControllerAnswer). ((‵ ftrue) ⊛ ‵ (R.the-row .own r (w ∷ []))) ⊛ raw (ensured 𝓤 H A by-value.ended (by-value.clauses 𝓤 H A at-mem run) κs handed tt r)))) (id⊢ 𝓤 _) $ await ! tt $ pick ! (λ r.
           split ! $ move ! (1 ∷ []) $ use1 W (raw (fact 𝓤 (outcome (answerSaid (r .answer)) (r .gc) ≡ lifted (controllerRecordOf (h .spare)) (graphicsStep (controllerOf h) gcReset)))) (said r) $ heard ! (outcome (answerSaid (r .answer)) (r .gc) ≡ lifted (controllerRecordOf (h .spare)) (graphicsStep (controllerOf h) gcReset)) (λ e. split ! $ move ! (1 ∷ []) $
-          -- [what the answer owns; the tokens; the last lists; cell; own; open; obs; auth; the last local; …]
+          -- [what the answer owns; the tokens; the last lists; what the records left; the last local; …]
           peeks ! R.the-row (Is R.the-row) (shows 𝓤 H A R.the-row) r (w ∷ []) (λ is.
           let we : w ≡ rval r = head-is w (rval r) (LL.tells R.the-type R′.the-laws r (w ∷ []) is) in
           rewrite ! 0 (λ (v : Val). ‵ (R.the-row .own r (v ∷ []))) we refl $ peeks ! R.the-row (Is R.the-row) (shows 𝓤 H A R.the-row) r (rval r ∷ []) (λ is′.

@@ -4,10 +4,10 @@ use mathlib.Core.List.{[]}
 use Rattle.machine.specs.Memory.{mem}
 use Rattle.machine.specs.Answers.{said, part}
 use Rattle.answers.specs.Wide.{shownOf}
 use Rattle.host_calls.proofs.Laws.{unknown-of, known-of, cpu-unknown, cpu-asked, shown-of}
 use borrow.Author.Needs.{needs}
-use Rattle.host.proofs.access.iddesmar_gc_serialize.Statement.{statement}
-use Rattle.host.proofs.access.iddesmar_gc_serialize.Tie as tie
+use Rattle.host_calls.proofs.serialize_of.Statement.{statement}
+use Rattle.host_calls.proofs.serialize_of.Tie as tie
 
 known-requires : tie.Need-known-requires
 known-requires c κs = search needs
@@ -48,8 +48,8 @@ returns-2 c =
     shown-of shownOf _ _ _ _ (c .of-part .ensures) (cpu-asked (a .gc) (a .seq) m (part []) _ (known-of (else1 .if1 .left) (after-known .known .ensures)) _ _
     (after-to-controller .to-controller .ensures) (after-to-sequencer .to-sequencer .ensures) _ _ refl (c .before .serialize .ensures))
 
-pub iddesmar-gc-serialize-spec : {M : Type 1} → statement M
-iddesmar-gc-serialize-spec =
+pub serialize-of-spec : {M : Type 1} → statement M
+serialize-of-spec =
     tie.close
     (tie.spec
     known-requires

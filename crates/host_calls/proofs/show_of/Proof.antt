@@ -5,10 +5,10 @@ use Rattle.machine.specs.Answers.{said, shown, noPixels}
 use Rattle.machine.specs.Graphics.{shiftMode}
 use Rattle.answers.specs.Wide.{pixelsShown}
 use Rattle.host_records.specs.Records.{controllerOf}
 use Rattle.host_calls.proofs.Laws.{unknown-of, known-of, cpu-unknown, cpu-asked, shown-of}
 use borrow.Author.Needs.{needs}
-use Rattle.host.proofs.access.iddesmar_gc_show_pixels.Statement.{statement}
-use Rattle.host.proofs.access.iddesmar_gc_show_pixels.Tie as tie
+use Rattle.host_calls.proofs.show_of.Statement.{statement}
+use Rattle.host_calls.proofs.show_of.Tie as tie
 
 known-requires : tie.Need-known-requires
 known-requires c κs = search needs
@@ -51,8 +51,8 @@ returns-2 c =
     shown-of pixelsShown _ _ _ _ (c .of-shown .ensures) (cpu-asked (a .gc) (a .seq) m blank _ (known-of (else1 .if1 .left) (after-known .known .ensures)) _ _
     (after-to-controller .to-controller .ensures) (after-to-sequencer .to-sequencer .ensures) _ _ refl (c .before .show-pixels .ensures))
 
-pub iddesmar-gc-show-pixels-spec : {M : Type 1} → statement M
-iddesmar-gc-show-pixels-spec =
+pub show-of-spec : {M : Type 1} → statement M
+show-of-spec =
     tie.close
     (tie.spec
     known-requires

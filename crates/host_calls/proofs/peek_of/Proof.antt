@@ -3,10 +3,10 @@ use mathlib.Core.Path.{refl, ap}
 use Rattle.machine.specs.Memory.{mem}
 use Rattle.machine.specs.Answers.{one}
 use Rattle.answers.specs.Answers.{answerSaid}
 use Rattle.host_calls.proofs.Laws.{unknown-of, known-of, cpu-unknown, cpu-asked}
 use borrow.Author.Needs.{needs}
-use Rattle.host.proofs.access.iddesmar_gc_cpu_peek_u8.Statement.{statement}
-use Rattle.host.proofs.access.iddesmar_gc_cpu_peek_u8.Tie as tie
+use Rattle.host_calls.proofs.peek_of.Statement.{statement}
+use Rattle.host_calls.proofs.peek_of.Tie as tie
 
 known-requires : tie.Need-known-requires
 known-requires c κs = search needs
@@ -50,8 +50,8 @@ returns-2 c =
     rw (← after-is-set .is-set .ensures) (cpu-asked (a .gc) (a .seq) m (one 0) _ (known-of (else1 .if1 .left) (after-known .known .ensures)) _ _
     (after-to-controller .to-controller .ensures) (after-to-sequencer .to-sequencer .ensures) _ _ (c .of-byte .ensures) (c .before .cpu-peek-u8 .ensures))
 
-pub iddesmar-gc-cpu-peek-u8-spec : {M : Type 1} → statement M
-iddesmar-gc-cpu-peek-u8-spec =
+pub peek-of-spec : {M : Type 1} → statement M
+peek-of-spec =
     tie.close
     (tie.spec
     known-requires
