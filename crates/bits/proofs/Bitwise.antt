@@ -1,5 +1,5 @@
 -- `&`, `|`, `^`, `!` and shifts, bit by bit: `simp bitwise` turns bit i of an expression on numbers into the same expression on bits.
-use Prim.Native.Nat.{ℕ, zero, suc, _+_, _-_, _*_, _/_, _%_, _^_, _<_, min, max}
+use Prim.Native.Nat.{ℕ, zero, suc, _-_, _*_, _/_, _%_, _^_, _<_, min, max}
 use native.Mathlib.Nat.{pow-suc, lt-of-le-of-lt, le-of-suc-le-suc, not-suc-le-zero, mod-eq-of-lt}
 use native.Mathlib.Numerals.{add-one}
 use native.Mathlib.Omega.{arith}
@@ -10,11 +10,8 @@ use lib.Bits.{bitAnd, bitOr, bitXor, differ, and-step, or-step, xor-step, and-sh
 use lib.Dec.{leb}
 use mathlib.Core.Bool.{Bool, true, false, _&&_}
 use borrow.Author.Tests.{leb-true, leb-false, le-leb, lt-leb}
-use Rattle.bits.specs.Bit.{bit, ofBits, byteOf}
-use Rattle.bits.proofs.Laws.{bit-lt, bit-zero, bit-suc, bit-shr, bit-of}
-use Rattle.bits.proofs.Decide.{agree4}
-use mathlib.Core.List.{[], _∷_}
-use lib.ListN.{getD}
+use Rattle.bits.specs.Bit.{bit, byteOf}
+use Rattle.bits.proofs.Laws.{bit-lt, bit-zero, bit-suc, bit-of}
 
 -- ---- the operations
 
@@ -89,7 +86,7 @@ pub and-right : (a b c : Bool) → ((a && b) && c) ≡ (a && (b && c))
 and-right true b c = refl
 and-right false b c = refl
 
-pub three-within : (n a b c : ℕ) → leb (bitOr (bitOr a b) c) (2 ^ n - 1) ≡ (leb a (2 ^ n - 1) && (leb b (2 ^ n - 1) && leb c (2 ^ n - 1)))
+three-within : (n a b c : ℕ) → leb (bitOr (bitOr a b) c) (2 ^ n - 1) ≡ (leb a (2 ^ n - 1) && (leb b (2 ^ n - 1) && leb c (2 ^ n - 1)))
 three-within n a b c = or-within n (bitOr a b) c ∙ ap (λ (t : Bool). t && leb c (2 ^ n - 1)) (or-within n a b) ∙ and-right (leb a (2 ^ n - 1)) (leb b (2 ^ n - 1)) (leb c (2 ^ n - 1))
 
 pub five-within : (n a b c d e : ℕ) → leb (bitOr (bitOr (bitOr (bitOr a b) c) d) e) (2 ^ n - 1)
@@ -106,41 +103,6 @@ five-within n a b c d e =
 pub shr-and-one : (x k : ℕ) → bitAnd (x / 2 ^ k) 1 ≡ bit k x
 unfolding bit
 shr-and-one x k = and-mask (x / 2 ^ k) 1
-
--- bits s and s + 4 as a number below 4, and where `& 0x11` has them
-abbrev pair : ℕ → ℕ → ℕ
-pair s x = bit s x + 2 * bit (s + 4) x
-
-abbrev apart : ℕ → ℕ
-apart u = u % 2 + 16 * (u / 2)
-
-bit-three : (y : ℕ) → bitAnd y 8 ≡ bit 3 y * 8
-unfolding bit
-bit-three y = and-high y 1 3
-
--- `(x >> s) & 0x11`
-shr-and-17 : (x s : ℕ) → bitAnd (x / 2 ^ s) 17 ≡ apart (pair s x)
-shr-and-17 x s =
-    let top : bitAnd (x / 2 ^ s / 2) 8 ≡ bit 3 (x / 2 ^ s / 2) * 8 = bit-three (x / 2 ^ s / 2) in
-    let low : bit 0 (x / 2 ^ s) ≡ bit s x = bit-shr 0 s x ∙ ap (λ (k : ℕ). bit k x) (omega arith) in
-    omega (arith, and-step (x / 2 ^ s) 17, top, bit-suc 3 (x / 2 ^ s), bit-zero (x / 2 ^ s), low, bit-shr 4 s x, bit-lt s x, bit-lt (s + 4) x)
-
--- bits s and s + 4 of each of four bytes, moved to the byte's number in each half
-pub two-halves : (w x y z s : ℕ)
-    → bitOr (bitOr (bitOr (bitAnd (w / 2 ^ s) 17) (bitAnd (x / 2 ^ s) 17 * 2 % 256)) (bitAnd (y / 2 ^ s) 17 * 4 % 256)) (bitAnd (z / 2 ^ s) 17 * 8 % 256)
-    ≡ ofBits 4 (λ p. bit s (getD (w ∷ x ∷ y ∷ z ∷ []) p 0)) + 16 * ofBits 4 (λ p. bit (s + 4) (getD (w ∷ x ∷ y ∷ z ∷ []) p 0))
-unfolding ofBits
-two-halves w x y z s =
-    rw (shr-and-17 w s, shr-and-17 x s, shr-and-17 y s, shr-and-17 z s) (joined (pair s w) (pair s x) (pair s y) (pair s z) (pair-lt w) (pair-lt x) (pair-lt y) (pair-lt z)
-    ∙ omega (arith, bit-lt s w, bit-lt s x, bit-lt s y, bit-lt s z, bit-lt (s + 4) w, bit-lt (s + 4) x, bit-lt (s + 4) y, bit-lt (s + 4) z))
-  where
-    pair-lt : (x : ℕ) → pair s x < 4
-    pair-lt x = omega (arith, bit-lt s x, bit-lt (s + 4) x)
-
-    joined : (a b c d : ℕ) → a < 4 → b < 4 → c < 4 → d < 4 → bitOr (bitOr (bitOr (apart a) (apart b * 2 % 256)) (apart c * 4 % 256)) (apart d * 8 % 256)
-        ≡ (a % 2 + 2 * (b % 2 + 2 * (c % 2 + 2 * (d % 2 + 2 * 0)))) + 16 * (a / 2 + 2 * (b / 2 + 2 * (c / 2 + 2 * (d / 2 + 2 * 0))))
-    joined = agree4 4 4 4 4 (λ a b c d. bitOr (bitOr (bitOr (apart a) (apart b * 2 % 256)) (apart c * 4 % 256)) (apart d * 8 % 256))
-        (λ a b c d. (a % 2 + 2 * (b % 2 + 2 * (c % 2 + 2 * (d % 2 + 2 * 0)))) + 16 * (a / 2 + 2 * (b / 2 + 2 * (c / 2 + 2 * (d / 2 + 2 * 0))))) tt
 
 -- `x & (1 << p)` at a byte
 pub and-one-shl : (x p : ℕ) → p < 8 → bitAnd x (1 * 2 ^ p % 256) ≡ bit p x * 2 ^ p

@@ -32,8 +32,3 @@ agree3 n m k f g t a b c ha = agree2 m k (f a) (g a) (every-at n (λ a. every m 
 -- three bits
 pub same3 : (f g : ℕ → ℕ → ℕ → ℕ) → T (every 2 (λ a. every 2 (λ b. every 2 (λ c. eqb (f a b c) (g a b c))))) → (a b c : ℕ) → a < 2 → b < 2 → c < 2 → f a b c ≡ g a b c
 same3 = agree3 2 2 2
-
--- four numbers
-pub agree4 : (n m k l : ℕ) (f g : ℕ → ℕ → ℕ → ℕ → ℕ) → T (every n (λ a. every m (λ b. every k (λ c. every l (λ d. eqb (f a b c d) (g a b c d)))))) → (a b c d : ℕ) → a < n
-    → b < m → c < k → d < l → f a b c d ≡ g a b c d
-agree4 n m k l f g t a b c d ha = agree3 m k l (f a) (g a) (every-at n (λ a. every m (λ b. every k (λ c. every l (λ d. eqb (f a b c d) (g a b c d))))) t a ha) b c d
