@@ -53,14 +53,16 @@ pub fn judge_show(
 fn within_planes(mode: ShiftMode, n: usize, offset: usize) -> bool
     ensures { λ r. ⌜ r ≡ ltb (lastShown mode offset) n ⌝ }
 {
-    if offset >= n {
-        return false;
-    }
     match mode {
-        ShiftMode::Standard => true,
-        ShiftMode::CGACompatible => offset + 1 < n,
-        ShiftMode::Chain4 => true,
-        ShiftMode::Unused => true,
+        ShiftMode::Standard => offset < n,
+        ShiftMode::CGACompatible => {
+            if offset >= n {
+                return false;
+            }
+            offset + 1 < n
+        }
+        ShiftMode::Chain4 => offset < n,
+        ShiftMode::Unused => offset < n,
     }
 }
 

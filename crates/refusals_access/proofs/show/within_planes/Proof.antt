@@ -1,20 +1,19 @@
 -- `within_planes` tests the last offset that a show looks at: by its mode, arm by arm.
 use borrow.Author.Needs.{needs}
-use borrow.Author.Tests.{lt-ltb}
 use Rattle.refusals_access.proofs.ShownOffsets.{last-past}
 use Rattle.refusals_access.proofs.show.within_planes.Statement.{statement}
 use Rattle.refusals_access.proofs.show.within_planes.Tie as tie
-
-returns : tie.Need-returns
-returns c =
-    let start : tie.Start = search needs in
-    rw (last-past (start .args .mode) (start .args .offset) (start .args .n) (c .if1 .taken))
 
 enum-told : tie.Need-enum-told
 enum-told c = search needs
 
 enum-told-2 : tie.Need-enum-told-2
 enum-told-2 c = search needs
+
+returns : tie.Need-returns
+returns c =
+    let start : tie.Start = search needs in
+    rw (last-past (start .args .mode) (start .args .offset) (start .args .n) (c .if1 .taken))
 
 add-result : tie.Need-add-result
 add-result c = search needs
@@ -26,9 +25,7 @@ enum-told-4 : tie.Need-enum-told-4
 enum-told-4 c = search needs
 
 returns-2 : tie.Need-returns-2
-returns-2 c =
-    let else1 : tie.Else1 = search needs in
-    simp (c .enum-told .given .1, lt-ltb _ _ (else1 .if1 .left))
+returns-2 c = rw (c .enum-told .given .1)
 
 returns-3 : tie.Need-returns-3
 returns-3 c =
@@ -36,22 +33,18 @@ returns-3 c =
     rw (after-enum-told2 .enum-told2 .given .1)
 
 returns-4 : tie.Need-returns-4
-returns-4 c =
-    let else1 : tie.Else1 = search needs in
-    simp (c .enum-told3 .given .1, lt-ltb _ _ (else1 .if1 .left))
+returns-4 c = rw (c .enum-told3 .given .1)
 
 returns-5 : tie.Need-returns-5
-returns-5 c =
-    let else1 : tie.Else1 = search needs in
-    simp (c .enum-told4 .given .1, lt-ltb _ _ (else1 .if1 .left))
+returns-5 c = rw (c .enum-told4 .given .1)
 
 pub within-planes-spec : {M : Type 1} → statement M
 within-planes-spec =
     tie.close
     (tie.spec
-    returns
     enum-told
     enum-told-2
+    returns
     add-result
     enum-told-3
     enum-told-4
