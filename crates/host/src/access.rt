@@ -36,7 +36,14 @@ pub extern "C" fn iddesmar_gc_cpu_read_u8_2(
         ≡ cpuHosted (now (gc .entry)) (now (seq .entry)) (before p0 p1 p2 p3 picture) (one 0) (cpuRead address (isSet page)) ⌝ }
 {
     let w = read_of(*gc, *seq, p0, p1, p2, p3, picture, address, page);
-    *gc = w.gc;
+    gc.latches = w.latches;
+    // one counter goes up where it stands
+    match w.counter {
+        4 => gc.stats.mode_0_reads = std::num::wrapping_add_u32(gc.stats.mode_0_reads, 1),
+        5 => gc.stats.mode_1_reads = std::num::wrapping_add_u32(gc.stats.mode_1_reads, 1),
+        6 => gc.stats.refused_accesses = std::num::wrapping_add_u32(gc.stats.refused_accesses, 1),
+        _ => {}
+    }
     w.answer
 }
 
@@ -57,7 +64,15 @@ pub extern "C" fn iddesmar_gc_cpu_write_u8_2(
         (cpuHosted (now (gc .entry)) (now (seq .entry)) (before p0 p1 p2 p3 picture) (changes 0 0 0 0) (cpuWrite address (isSet page) byte)) ⌝ }
 {
     let w = write_of(*gc, *seq, p0, p1, p2, p3, picture, address, page, byte);
-    gc.stats = w.stats;
+    // one counter goes up where it stands
+    match w.counter {
+        0 => gc.stats.mode_0_writes = std::num::wrapping_add_u32(gc.stats.mode_0_writes, 1),
+        1 => gc.stats.mode_1_writes = std::num::wrapping_add_u32(gc.stats.mode_1_writes, 1),
+        2 => gc.stats.mode_2_writes = std::num::wrapping_add_u32(gc.stats.mode_2_writes, 1),
+        3 => gc.stats.mode_3_writes = std::num::wrapping_add_u32(gc.stats.mode_3_writes, 1),
+        6 => gc.stats.refused_accesses = std::num::wrapping_add_u32(gc.stats.refused_accesses, 1),
+        _ => {}
+    }
     w.answer
 }
 

@@ -1,15 +1,19 @@
 -- Any two outcomes that a function's contract permits for one input coincide. `Post` is each contract's own reading.
+use Prim.Native.Nat.{ℕ}
 use mathlib.Core.Path.{_≡_, sym, ap, ap₂, _∙_}
+use mathlib.Core.List.{List}
 use contract.Lifetimes.{Lfts}
 use borrow.Fn.Kinds.{Dens}
 use Rattle.machine.specs.Memory.{lent}
 use Rattle.machine.specs.Answers.{Said, Outcome, outcome}
+use Rattle.machine.specs.Calls.{readCounter, writeCounter}
+use Rattle.machine.specs.Graphics.{readMode, writeMode}
 use Rattle.machine.proofs.Injective.{answer-of, next-of}
 use Rattle.answers.specs.declared.narrow.Answer.{Answer}
 use Rattle.answers.specs.declared.wide.Stored.{Stored}
 use Rattle.answers.proofs.Told.{answer-is}
 use Rattle.host_records.specs.declared.record.ControllerRecord.{ControllerRecord}
-use Rattle.host_records.specs.declared.record.StatsRecord.{StatsRecord}
+use Rattle.host_records.specs.Records.{counterOf, controllerOf}
 use Rattle.host_records.proofs.Told.{controller-answer-is, sequencer-answer-is}
 use Rattle.host_calls.specs.Hosted.{Held}
 use Rattle.machine_types.proofs.OneAnswer.{OneAnswer, OneOutcome}
@@ -66,13 +70,18 @@ module _ (κs : Lfts 0) (a : Dens κs sequencer-data-of-kinds.ps) where
 
 module _ (κs : Lfts 5) (a : Dens κs read-of-kinds.ps) where
   pub read-of-determined : OneAnswer (read-of.Post κs a)
-  read-of-determined r r′ e e′ p q = ap₂ (λ (a : Answer) (g : ControllerRecord). record { answer = a; gc = g }) (answer-is (r .answer) (r′ .answer) (answer-of p q)) (gc-of p q)
+  read-of-determined r r′ e e′ p q =
+      let told = answer-is (r .answer) (r′ .answer) (answer-of (p .0) (q .0)) in
+      let counts = p .1 ∙ ap (λ (u : Answer). counterOf (u .number) (readCounter (readMode (controllerOf (a .0) .registers)))) told ∙ sym (q .1) in
+      let latches = ap (λ (g : ControllerRecord). g .latches) (gc-of (p .0) (q .0)) in
+      ap₂ (λ (u : Answer × List ℕ) (k : ℕ). record { answer = u .0; latches = u .1; counter = k }) (ap₂ (λ (u : Answer) (l : List ℕ). (u, l)) told latches) counts
 
 module _ (κs : Lfts 5) (a : Dens κs write-of-kinds.ps) where
   pub write-of-determined : OneOutcome (write-of.Post κs a) (λ e. lent (e .1 .1 .0) (e .1 .1 .1 .0) (e .1 .1 .1 .1 .0) (e .1 .1 .1 .1 .1 .0) (e .1 .1 .1 .1 .1 .1 .0))
   write-of-determined r r′ e e′ p q =
-      let left = p .1 ∙ sym (q .1) in
-      (ap₂ (λ (a : Stored) (t : StatsRecord). record { answer = a; stats = t }) (p .0 ∙ sym (q .0)) (ap (λ (h : Held). h .gc .stats) left), ap (λ (h : Held). h .memory) left)
+      let told = p .0 .0 ∙ sym (q .0 .0) in
+      let counts = p .1 ∙ ap (λ (s : Stored). counterOf (s .number) (writeCounter (writeMode (controllerOf (a .0) .registers)))) told ∙ sym (q .1) in
+      (ap₂ (λ (s : Stored) (k : ℕ). record { answer = s; counter = k }) told counts, ap (λ (h : Held). h .memory) (p .0 .1 ∙ sym (q .0 .1)))
 
 module _ (κs : Lfts 5) (a : Dens κs peek-of-kinds.ps) where
   pub peek-of-determined : OneAnswer (peek-of.Post κs a)

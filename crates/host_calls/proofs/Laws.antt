@@ -1,25 +1,34 @@
 -- What the host's proofs cite: a call on records that are known, or not, and what a write leaves as it was.
-use Prim.Native.Nat.{ℕ, zero, suc}
+use Prim.Native.Nat.{ℕ, zero, suc, _+_, _/_, _%_, _^_, _<_}
+use native.Mathlib.Omega.{arith}
 use mathlib.Core.Path.{_≡_, refl, sym, ap, ap₂, subst, _∙_}
 use mathlib.Core.Bool.{Bool, true, false, not}
+use mathlib.Core.List.{List, [], _∷_}
+use lib.Bits.{bitAnd, and-mask}
+use lib.ListN.{getD}
 use borrow.Author.Tests.{not-true, not-false}
+use Rattle.bits.specs.Bit.{field}
 use Rattle.machine_types.specs.declared.gc.GraphicsController.{GraphicsController}
+use Rattle.machine_types.specs.declared.gc.GraphicsRegisters.{GraphicsRegisters}
+use Rattle.machine_types.specs.declared.gc.ReadMode.the-variants.{ReadSelectedPlane, ReadComparedPlanes}
 use Rattle.machine_types.specs.declared.gc.WriteMode.{WriteMode}
+use Rattle.machine_types.specs.declared.gc.WriteMode.the-variants.{Mode0, Mode1, Mode2, Mode3}
 use Rattle.machine_types.specs.declared.seq.Sequencer.{Sequencer}
 use Rattle.machine.specs.Memory.{Memory, shape}
 use Rattle.machine.specs.Answers.{Value, Said, said, Outcome, outcome, answered}
-use Rattle.machine.specs.Graphics.{gcOf, writeMode}
+use Rattle.machine.specs.Graphics.{gcOf, readMode, writeMode}
 use Rattle.machine.specs.Address.{offset}
 use Rattle.machine.specs.Deeds.{latchesAfter, memoryAfter, valueOf, perform}
-use Rattle.machine.specs.Calls.{SequencerCall, DirectCall, GraphicsCall, CpuCall, directPlan, gcNumberOf, cpuWrite, CpuPlan, cpuPlan, writeDeed}
+use Rattle.machine.specs.Calls.{SequencerCall, DirectCall, GraphicsCall, CpuCall, directPlan, gcNumberOf, cpuRead, cpuWrite, CpuPlan, cpuPlan, writeDeed}
+use Rattle.machine.specs.Calls.{counted, readCounter, writeCounter, refusedCounter, refusalCounter}
 use Rattle.machine.specs.Step.{Device, device, lifted, cpuAfter, cpuRefused, cpuPerform, sequencerStep, directStep, graphicsStep, cpuStep}
 use Rattle.answers.specs.declared.wide.Shown.{Shown}
 use Rattle.answers.specs.declared.wide.Stored.{Stored}
 use Rattle.answers.specs.Wide.{storedOf, StoredAs}
-use Rattle.host_records.specs.declared.record.StatsRecord.{StatsRecord}
 use Rattle.host_records.specs.declared.record.ControllerRecord.{ControllerRecord}
 use Rattle.host_records.specs.declared.record.SequencerRecord.{SequencerRecord}
-use Rattle.host_records.specs.Records.{knownGc, knownSeq, knownBoth, controllerOf, controllerRecordOf, sequencerOf, sequencerRecordOf, statsRecordOf, withStats, leftTo}
+use Rattle.host_records.specs.Records.{knownGc, knownSeq, knownBoth, controllerOf, controllerRecordOf, sequencerOf, sequencerRecordOf, statsOf, statsRecordOf, leftTo}
+use Rattle.host_records.specs.Records.{withStats, withLatches, withCount, counterOf}
 use Rattle.host_records.proofs.Laws.{record-back, known-gc, left-lifted}
 use Rattle.host_calls.specs.Hosted.{held, heldOf, sequencerHosted, directHosted, graphicsHosted, cpuHosted}
 
@@ -29,14 +38,6 @@ unknown-of {b = b} h e = sym (not-true b h) ∙ e
 
 pub known-of : {b k : Bool} → not b ≡ false → b ≡ k → true ≡ k
 known-of {b = b} h e = sym (not-false b h) ∙ e
-
--- the parts of equal outcomes
-module _ {S : Type 0} {a b : Said} {s t : S} (e : outcome a s ≡ outcome b t) where
-  pub said-of : a ≡ b
-  said-of = ap (λ (o : Outcome S). o .answer) e
-
-  pub left-of : s ≡ t
-  left-of = ap (λ (o : Outcome S). o .next) e
 
 -- ---- calls on the sequencer's record
 
@@ -142,14 +143,85 @@ unfolding cpuStep cpuPlan
 write-kept g s m x page y =
     plan-kept (cpuPlan (g .registers) s (shape m) (cpuWrite x page y)) g m (write-latches (writeMode (g .registers)) g s m x (offset (g .registers) x page) y)
 
-module _ (g : ControllerRecord) (s : SequencerRecord) (m : Memory) (v : Value) (x : ℕ) (page : Bool) (y : ℕ) where
-  pub cpu-wrote : true ≡ knownBoth g s → (g′ : GraphicsController) (s′ : Sequencer) → g′ ≡ controllerOf g → s′ ≡ sequencerOf s
-      → (a : Said) (n : GraphicsController) (t : StatsRecord) (r : Stored) (m′ : Memory) → StoredAs r t (outcome a (statsRecordOf (n .stats)))
-      → outcome a (device n m′) ≡ cpuStep g′ s′ m (cpuWrite x page y) → StoredAs r (held (withStats t g) m′) (cpuHosted g s m v (cpuWrite x page y))
-  cpu-wrote e g′ s′ i j a n t r m′ f p = stored-as a (held (withStats t g) m′) _ r (f .0) (cpu-known g s m v (cpuWrite x page y) e g′ s′ i j a a n (withStats t g) m′ refl stays p)
-    where
-      same : Kept (controllerOf g) n
-      same = subst (λ (q : GraphicsController). Kept q n) i (subst (Kept g′) (sym (ap (λ (o : Outcome Device). o .next .gc) p)) (write-kept g′ s′ m x page y))
+-- ---- an access counts, and what it counts is what a host's record is left with
 
-      stays : withStats t g ≡ controllerRecordOf (g .spare) n
-      stays = sym (ap (controllerRecordOf (g .spare)) same ∙ ap (withStats (statsRecordOf (n .stats))) (record-back g (known-gc g s e)) ∙ ap (λ (t : StatsRecord). withStats t g) (sym (f .1)))
+-- by the answer's number, the access's own counter or that of the refused
+counts-either : (g : GraphicsController) (own n : ℕ) (v : Value) (l : List ℕ) (m′ m : Memory)
+    → let o = answered n v (device (gcOf (g .registers) (counted own (g .stats)) l) m′) (device (gcOf (g .registers) (counted (refusalCounter n refusedCounter) (g .stats)) (g .latches)) m) in
+    o .next .gc ≡ gcOf (g .registers) (counted (counterOf (o .answer .number) own) (g .stats)) (o .next .gc .latches)
+counts-either g own zero v l m′ m = refl
+counts-either g own (suc n) v l m′ m = refl
+
+-- an outcome that leaves a controller with one counter raised, whatever its latches
+abbrev Counts : GraphicsController → ℕ → Outcome Device → Type 0
+Counts g own o = o .next .gc ≡ gcOf (g .registers) (counted (counterOf (o .answer .number) own) (g .stats)) (o .next .gc .latches)
+
+plan-counts : (a : CpuPlan) (g : GraphicsController) (m : Memory) → a .turnedAway ≡ refusedCounter → Counts g (a .counter) (cpuPerform a g m)
+plan-counts a g m e = rw e (counts-either g (a .counter) (a .ask .number) _ (latchesAfter (a .ask .deed) (g .latches) m) (memoryAfter (a .ask .deed) (g .latches) m) m)
+
+-- what a host keeps of a controller that an access left: its own record, with the latches and the count
+left-back : (g : ControllerRecord) → true ≡ knownGc g → (k : ℕ) (l : List ℕ)
+    → controllerRecordOf (g .spare) (gcOf (controllerOf g .registers) (counted k (controllerOf g .stats)) l) ≡ withCount k (withLatches l g)
+unfolding counted
+left-back g e k l = ap (λ (h : ControllerRecord). withStats (statsRecordOf (counted k (statsOf (g .stats)))) (withLatches l h)) (record-back g e)
+
+module _ (g : ControllerRecord) (s : SequencerRecord) (m : Memory) (v : Value) (c : CpuCall) (own : ℕ) where
+  cpu-counted : Counts (controllerOf g) own (cpuStep (controllerOf g) (sequencerOf s) m c) → true ≡ knownBoth g s → (g′ : GraphicsController) (s′ : Sequencer) → g′ ≡ controllerOf g
+      → s′ ≡ sequencerOf s → (a : Said) (n : GraphicsController) (m′ : Memory) → outcome a (device n m′) ≡ cpuStep g′ s′ m c
+      → outcome a (held (withCount (counterOf (a .number) own) (withLatches (n .latches) g)) m′) ≡ cpuHosted g s m v c
+  cpu-counted t e g′ s′ i j a n m′ p =
+      cpu-known g s m v c e g′ s′ i j a a n _ m′ refl (sym (ap (controllerRecordOf (g .spare)) same ∙ left-back g (known-gc g s e) (counterOf (a .number) own) (n .latches))) p
+    where
+      same : Counts (controllerOf g) own (outcome a (device n m′))
+      same = subst (Counts (controllerOf g) own) (sym (p ∙ ap₂ (λ (q : GraphicsController) (t : Sequencer). cpuStep q t m c) i j)) t
+
+module _ (g : ControllerRecord) (s : SequencerRecord) (m : Memory) (x : ℕ) (page : Bool) where
+  read-counts : Counts (controllerOf g) (readCounter (readMode (controllerOf g .registers))) (cpuStep (controllerOf g) (sequencerOf s) m (cpuRead x page))
+  unfolding cpuStep cpuPlan
+  read-counts = plan-counts (cpuPlan (controllerOf g .registers) (sequencerOf s) (shape m) (cpuRead x page)) (controllerOf g) m refl
+
+  write-counts : (y : ℕ) → Counts (controllerOf g) (writeCounter (writeMode (controllerOf g .registers))) (cpuStep (controllerOf g) (sequencerOf s) m (cpuWrite x page y))
+  unfolding cpuStep cpuPlan
+  write-counts y = plan-counts (cpuPlan (controllerOf g .registers) (sequencerOf s) (shape m) (cpuWrite x page y)) (controllerOf g) m refl
+
+module _ (g : ControllerRecord) (s : SequencerRecord) (m : Memory) (v : Value) (x : ℕ) (page : Bool) (known : true ≡ knownBoth g s) (g′ : GraphicsController) (s′ : Sequencer)
+    (i : g′ ≡ controllerOf g) (j : s′ ≡ sequencerOf s) (n : GraphicsController) (m′ : Memory) (k : ℕ) where
+  pub cpu-read : (a b : Said) → b ≡ a → k ≡ counterOf (b .number) (readCounter (readMode (controllerOf g .registers))) → outcome a (device n m′) ≡ cpuStep g′ s′ m (cpuRead x page)
+      → outcome b (held (withCount k (withLatches (n .latches) g)) m′) ≡ cpuHosted g s m v (cpuRead x page)
+  cpu-read a b f h p = rw h (cpu-counted g s m v (cpuRead x page) _ (read-counts g s m x page) known g′ s′ i j b n m′ (ap (λ (a : Said). outcome a (device n m′)) f ∙ p))
+
+  pub cpu-wrote : (y : ℕ) (a : Said) (r : Stored) → r ≡ storedOf a → k ≡ counterOf (r .number) (writeCounter (writeMode (controllerOf g .registers)))
+      → outcome a (device n m′) ≡ cpuStep g′ s′ m (cpuWrite x page y) → StoredAs r (held (withCount k g) m′) (cpuHosted g s m v (cpuWrite x page y))
+  cpu-wrote y a r f h p =
+      let own = writeCounter (writeMode (controllerOf g .registers)) in
+      stored-as a (held (withCount k g) m′) (cpuHosted g s m v (cpuWrite x page y)) r f
+      (rw (h, f) (subst (λ (l : List ℕ). outcome a (held (withCount (counterOf (a .number) own) (withLatches l g)) m′) ≡ cpuHosted g s m v (cpuWrite x page y)) same
+      (cpu-counted g s m v (cpuWrite x page y) _ (write-counts g s m x page y) known g′ s′ i j a n m′ p)))
+    where
+      same : n .latches ≡ g .latches
+      same = ap (λ (q : GraphicsController). q .latches) (subst (λ (o : Outcome Device). Kept g′ (o .next .gc)) (sym p) (write-kept g′ s′ m x page y)) ∙ ap (λ (q : GraphicsController). q .latches) i
+
+-- ---- the counter of an accepted access, as the code works it out
+
+four-modes : (x : ℕ) → x < 4 → x ≡ writeCounter (getD (Mode0 ∷ Mode1 ∷ Mode2 ∷ Mode3 ∷ []) x Mode0)
+four-modes zero h = refl
+four-modes (suc zero) h = refl
+four-modes (suc (suc zero)) h = refl
+four-modes (suc (suc (suc zero))) h = refl
+four-modes (suc (suc (suc (suc x)))) h = absurd (omega arith)
+
+two-modes : (x : ℕ) → x < 2 → 4 + x ≡ readCounter (getD (ReadSelectedPlane ∷ ReadComparedPlanes ∷ []) x ReadSelectedPlane)
+two-modes zero h = refl
+two-modes (suc zero) h = refl
+two-modes (suc (suc x)) h = absurd (omega arith)
+
+pub write-own : (r : GraphicsRegisters) → bitAnd (r .mode) 3 ≡ writeCounter (writeMode r)
+unfolding writeMode field
+write-own r = let e : bitAnd (r .mode) 3 ≡ r .mode / 2 ^ 0 % 2 ^ 2 = omega (arith, and-mask (r .mode) 2) in e ∙ four-modes (r .mode / 2 ^ 0 % 2 ^ 2) (omega arith)
+
+pub read-own : (r : GraphicsRegisters) → 4 + bitAnd (r .mode / 2 ^ 3) 1 ≡ readCounter (readMode r)
+unfolding readMode field
+read-own r = let e : bitAnd (r .mode / 2 ^ 3) 1 ≡ r .mode / 2 ^ 3 % 2 ^ 1 = and-mask (r .mode / 2 ^ 3) 1 in rw e (two-modes (r .mode / 2 ^ 3 % 2 ^ 1) (omega arith))
+
+pub read-fits : (x : ℕ) → 4 + bitAnd x 1 < 2 ^ 8
+read-fits x = let e : bitAnd x 1 ≡ x % 2 ^ 1 = and-mask x 1 in omega (arith, e)

@@ -3,12 +3,12 @@ ghost use mathlib.Core.Path.{_≡_};
 ghost use mathlib.Core.List.{[]};
 ghost use Rattle.machine.specs.Memory.{before, after};
 ghost use Rattle.machine.specs.Answers.{one, part, changes, shown, noPixels, outcome};
-ghost use Rattle.machine.specs.Graphics.{shiftMode};
-ghost use Rattle.machine.specs.Calls.{cpuRead, cpuPeek, cpuWrite, serialize, showPixels, gcReset, gcWriteAddress, gcWriteData, seqWriteAddress, seqWriteData};
+ghost use Rattle.machine.specs.Graphics.{readMode, shiftMode, writeMode};
+ghost use Rattle.machine.specs.Calls.{readCounter, writeCounter, cpuRead, cpuPeek, cpuWrite, serialize, showPixels, gcReset, gcWriteAddress, gcWriteData, seqWriteAddress, seqWriteData};
 ghost use Rattle.machine.specs.Step.{lifted, graphicsStep};
 ghost use Rattle.answers.specs.Answers.{answerSaid};
 ghost use Rattle.answers.specs.Wide.{shownOf, pixelsShown, StoredAs};
-ghost use Rattle.host_records.specs.Records.{isSet, withStats, controllerOf, controllerRecordOf};
+ghost use Rattle.host_records.specs.Records.{isSet, counterOf, withCount, withLatches, controllerOf, controllerRecordOf};
 ghost use Rattle.host_calls.specs.Hosted.{held, cpuHosted, graphicsHosted, sequencerHosted};
 use answers::Answer;
 use answers::Shown;
@@ -16,20 +16,22 @@ use answers::done;
 use answers::of_byte;
 use answers::of_part;
 use answers::of_shown;
+use answers::of_store;
 use answers::unknown;
 use answers::unknown_shown;
+use answers::unknown_stored;
 use graphics_controller::cpu_peek_u8;
 use graphics_controller::cpu_read_u8;
 use graphics_controller::cpu_write_u8;
 use graphics_controller::show_pixels;
 use host_records::left::ControllerAnswer;
+use host_records::left::ReadAnswer;
 use host_records::left::SequencerAnswer;
-use host_records::left::StatsAnswer;
-use host_records::left::of_cpu_store;
+use host_records::left::WriteAnswer;
+use host_records::left::counter_of;
 use host_records::left::of_graphics_done;
 use host_records::left::of_sequencer_done;
 use host_records::left::unknown_controller;
-use host_records::left::unknown_counters;
 use host_records::left::unknown_sequencer;
 use host_records::record::ControllerRecord;
 use host_records::record::SequencerRecord;
@@ -42,7 +44,7 @@ use host_records::record::to_controller;
 use host_records::record::to_sequencer;
 use machine_types::PlaneOffset;
 
-// A read: the answer, and the record with its latches and counters.
+// A read: the answer, the latches, and which counter goes up. The record itself stays with the caller.
 pub fn read_of(
     gc: ControllerRecord,
     seq: SequencerRecord,
@@ -53,25 +55,35 @@ pub fn read_of(
     picture: &[u8],
     address: usize,
     page: u8,
-) -> ControllerAnswer
-    ensures { λ r. ⌜ outcome (answerSaid (r .answer)) (held (r .gc) (before p0 p1 p2 p3 picture)) ≡ cpuHosted gc seq (before p0 p1 p2 p3 picture) (one 0) (cpuRead address (isSet page)) ⌝ }
+) -> ReadAnswer
+    ensures { λ r. ⌜ (outcome (answerSaid (r .answer)) (held (withCount (r .counter) (withLatches (r .latches) gc)) (before p0 p1 p2 p3 picture))
+        ≡ cpuHosted gc seq (before p0 p1 p2 p3 picture) (one 0) (cpuRead address (isSet page)))
+        × (r .counter ≡ counterOf (r .answer .number) (readCounter (readMode (controllerOf gc .registers)))) ⌝ }
 {
     if !known(gc, seq) {
-        return unknown_controller(gc);
+        let latches = gc.latches;
+        return ReadAnswer {
+            answer: unknown(),
+            latches,
+            counter: 7,
+        };
     }
     let controller = to_controller(gc);
     let seq = to_sequencer(seq);
     let high = is_set(page);
     let r = cpu_read_u8(controller, seq, p0, p1, p2, p3, picture, address, high);
-    let answer = r.answer;
+    let told = r.answer;
+    let answer = of_byte(told);
     let next = r.gc;
-    ControllerAnswer {
-        answer: of_byte(answer),
-        gc: of_controller(next, gc.spare),
+    let latches = next.latches;
+    ReadAnswer {
+        answer,
+        latches,
+        counter: counter_of(answer.number, 4 + ((gc.mode >> 3) & 1)),
     }
 }
 
-// A write moves no register and no latch: the counters alone come back, beside how much it changed.
+// A write moves no register and no latch: which counter goes up comes back, beside how much it changed.
 pub fn write_of(
     gc: ControllerRecord,
     seq: SequencerRecord,
@@ -83,12 +95,16 @@ pub fn write_of(
     address: usize,
     page: u8,
     byte: u8,
-) -> StatsAnswer
-    ensures { λ r. ⌜ StoredAs (r .answer) (held (withStats (r .stats) gc) (after p0 p1 p2 p3 picture))
-        (cpuHosted gc seq (before p0 p1 p2 p3 picture) (changes 0 0 0 0) (cpuWrite address (isSet page) byte)) ⌝ }
+) -> WriteAnswer
+    ensures { λ r. ⌜ StoredAs (r .answer) (held (withCount (r .counter) gc) (after p0 p1 p2 p3 picture))
+        (cpuHosted gc seq (before p0 p1 p2 p3 picture) (changes 0 0 0 0) (cpuWrite address (isSet page) byte))
+        × (r .counter ≡ counterOf (r .answer .number) (writeCounter (writeMode (controllerOf gc .registers)))) ⌝ }
 {
     if !known(gc, seq) {
-        return unknown_counters(gc);
+        return WriteAnswer {
+            answer: unknown_stored(),
+            counter: 7,
+        };
     }
     let controller = to_controller(gc);
     let seq = to_sequencer(seq);
@@ -105,7 +121,12 @@ pub fn write_of(
         high,
         byte,
     );
-    of_cpu_store(r)
+    let told = r.answer;
+    let answer = of_store(told);
+    WriteAnswer {
+        answer,
+        counter: counter_of(answer.number, gc.mode & 3),
+    }
 }
 
 // Plane 0's byte, or under chain-four that of plane offset mod 4; nothing moves.

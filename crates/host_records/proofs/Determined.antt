@@ -3,7 +3,7 @@ use mathlib.Core.Path.{sym, _∙_}
 use contract.Lifetimes.{Lfts}
 use borrow.Fn.Kinds.{Dens}
 use Rattle.machine_types.proofs.OneAnswer.{OneAnswer}
-use Rattle.host_records.proofs.Told.{sequencer-answer-is, controller-answer-is, stats-answer-is}
+use Rattle.host_records.proofs.Told.{sequencer-answer-is, controller-answer-is}
 use Rattle.host_records.proofs.record.known_controller.Reads as known-controller
 use Rattle.host_records.proofs.record.known_controller.Kinds as known-controller-kinds
 use Rattle.host_records.proofs.record.known_sequencer.Reads as known-sequencer
@@ -12,8 +12,6 @@ use Rattle.host_records.proofs.record.known.Reads as known
 use Rattle.host_records.proofs.record.known.Kinds as known-kinds
 use Rattle.host_records.proofs.record.is_set.Reads as is-set
 use Rattle.host_records.proofs.record.is_set.Kinds as is-set-kinds
-use Rattle.host_records.proofs.record.of_stats.Reads as of-stats
-use Rattle.host_records.proofs.record.of_stats.Kinds as of-stats-kinds
 use Rattle.host_records.proofs.record.to_controller.Reads as to-controller
 use Rattle.host_records.proofs.record.to_controller.Kinds as to-controller-kinds
 use Rattle.host_records.proofs.record.of_controller.Reads as of-controller
@@ -32,10 +30,8 @@ use Rattle.host_records.proofs.left.unknown_controller.Reads as unknown
 use Rattle.host_records.proofs.left.unknown_controller.Kinds as unknown-controller-kinds
 use Rattle.host_records.proofs.left.of_graphics_done.Reads as of-graphics-done
 use Rattle.host_records.proofs.left.of_graphics_done.Kinds as of-graphics-done-kinds
-use Rattle.host_records.proofs.left.unknown_counters.Reads as unknown-counters
-use Rattle.host_records.proofs.left.unknown_counters.Kinds as unknown-counters-kinds
-use Rattle.host_records.proofs.left.of_cpu_store.Reads as of-cpu-store
-use Rattle.host_records.proofs.left.of_cpu_store.Kinds as of-cpu-store-kinds
+use Rattle.host_records.proofs.left.counter_of.Reads as counter-of
+use Rattle.host_records.proofs.left.counter_of.Kinds as counter-of-kinds
 
 -- ---- records
 
@@ -54,10 +50,6 @@ module _ (κs : Lfts 0) (a : Dens κs known-kinds.ps) where
 module _ (κs : Lfts 0) (a : Dens κs is-set-kinds.ps) where
   pub is-set-determined : OneAnswer (is-set.Post κs a)
   is-set-determined r r′ e e′ p q = p ∙ sym q
-
-module _ (κs : Lfts 0) (a : Dens κs of-stats-kinds.ps) where
-  pub of-stats-determined : OneAnswer (of-stats.Post κs a)
-  of-stats-determined r r′ e e′ p q = p ∙ sym q
 
 module _ (κs : Lfts 0) (a : Dens κs to-controller-kinds.ps) where
   pub to-controller-determined : OneAnswer (to-controller.Post κs a)
@@ -97,10 +89,6 @@ module _ (κs : Lfts 0) (a : Dens κs of-graphics-done-kinds.ps) where
   pub of-graphics-done-determined : OneAnswer (of-graphics-done.Post κs a)
   of-graphics-done-determined r r′ e e′ p q = controller-answer-is r r′ p q
 
-module _ (κs : Lfts 0) (a : Dens κs unknown-counters-kinds.ps) where
-  pub unknown-counters-determined : OneAnswer (unknown-counters.Post κs a)
-  unknown-counters-determined r r′ e e′ p q = stats-answer-is r r′ p q
-
-module _ (κs : Lfts 0) (a : Dens κs of-cpu-store-kinds.ps) where
-  pub of-cpu-store-determined : OneAnswer (of-cpu-store.Post κs a)
-  of-cpu-store-determined r r′ e e′ p q = stats-answer-is r r′ p q
+module _ (κs : Lfts 0) (a : Dens κs counter-of-kinds.ps) where
+  pub counter-of-determined : OneAnswer (counter-of.Post κs a)
+  counter-of-determined r r′ e e′ p q = p ∙ sym q

@@ -1,23 +1,30 @@
 -- What the walks share: the machine values of the host's records and answers, and what the parts of an answer know.
-use Prim.Native.Nat.{ℕ}
-use mathlib.Core.Path.{_≡_}
+use Prim.Native.Nat.{ℕ, _+_, _%_, _^_, _<_}
+use native.Mathlib.Omega.{arith}
+use mathlib.Core.Path.{_≡_, refl}
+use mathlib.Core.Bool.{Bool, true, false}
 use mathlib.Core.List.{List, [], _∷_}
-use mir.Syntax.{Sym}
-use mir.Val.{Val}
+use lib.Dec.{eqb}
+use mir.Syntax.{Sym, w32}
+use mir.Val.{Val, vint}
 use denote.RattleType.{Denots}
 use denote.Laws.{Is}
+use denote.Builtin.{u32}
 use denote.Ref.{RefT}
-use denote.Struct.Field.{Field, rows}
+use denote.Struct.Field.{Field, rows, u8-field, array-field}
 use denote.Struct.Declared.{Declared, fields, row, field}
 use denote.Struct.Struct.{Plains}
 use denote.Struct.Laws as LL
+use denote.Struct.Laws.{FLaws}
+use Rattle.bits.specs.Bit.{pick}
 use Rattle.answers.specs.declared.narrow.Answer.{Answer}
 use Rattle.host_records.specs.declared.record.ControllerRecord.{ControllerRecord}
 use Rattle.host_records.specs.declared.record.SequencerRecord.{SequencerRecord}
 use Rattle.host_records.specs.declared.left.ControllerAnswer.{ControllerAnswer}
 use Rattle.host_records.specs.declared.left.SequencerAnswer.{SequencerAnswer}
-use Rattle.host_records.specs.declared.left.StatsAnswer.{StatsAnswer}
-use Rattle.host_records.specs.Records.{withStats}
+use Rattle.host_records.specs.declared.left.ReadAnswer.{ReadAnswer}
+use Rattle.host_records.specs.declared.left.WriteAnswer.{WriteAnswer}
+use Rattle.host_records.specs.Records.{withLatches, withCount}
 use Rattle.host_records.proofs.record.StatsRecord as T
 use Rattle.host_records.proofs.record.StatsRecord.Laws as T′
 use Rattle.host_records.proofs.record.ControllerRecord as G
@@ -28,10 +35,12 @@ use Rattle.answers.proofs.narrow.Answer as N
 use Rattle.answers.proofs.narrow.Answer.Laws as N′
 use Rattle.answers.proofs.wide.Stored as W
 use Rattle.answers.proofs.wide.Stored.Laws as W′
+use Rattle.host_records.proofs.left.ReadAnswer as D
+use Rattle.host_records.proofs.left.ReadAnswer.Laws as D′
+use Rattle.host_records.proofs.left.WriteAnswer as C
+use Rattle.host_records.proofs.left.WriteAnswer.Laws as C′
 use Rattle.host_records.proofs.left.ControllerAnswer as R
 use Rattle.host_records.proofs.left.SequencerAnswer as Q
-use Rattle.host_records.proofs.left.StatsAnswer as C
-use Rattle.host_records.proofs.left.StatsAnswer.Laws as C′
 
 -- a lent slice of bytes
 abbrev pub Bytes : Type 0
@@ -125,7 +134,7 @@ sequencer = record {
   one = Q.the-type .to-one;
 }
 
--- what the walks of the read and of the reset ask of the controller's
+-- what the walk of the reset asks of the controller's
 abbrev pub rval : ControllerAnswer → Val
 rval = both-val controller
 
@@ -138,21 +147,68 @@ an-is = answer-is controller
 pub gc-is : (r : ControllerAnswer) → Is R.the-row r (rval r ∷ []) → Is G.the-row (r .gc) (gval (r .gc) ∷ [])
 gc-is = left-is controller
 
--- ---- a write's answer with the counters
+-- ---- a read's answer, a write's answer
 
-abbrev pub stats-rval : StatsAnswer → Val
-stats-rval = LL.val C.the-type C′.the-laws
+abbrev pub read-val : ReadAnswer → Val
+read-val = LL.val D.the-type D′.the-laws
 
-abbrev pub stats-aval : StatsAnswer → Val
-stats-aval r = LL.val W.the-type W′.the-laws (r .answer)
+abbrev pub read-told : ReadAnswer → Val
+read-told r = LL.val N.the-type N′.the-laws (r .answer)
 
-pub stats-an-is : (r : StatsAnswer) → Is C.the-row r (stats-rval r ∷ []) → Is W.the-row (r .answer) (stats-aval r ∷ [])
-stats-an-is r is = LL.owed C.the-type C′.the-laws r _ is .0
+pub read-told-is : (r : ReadAnswer) → Is D.the-row r (read-val r ∷ []) → Is N.the-row (r .answer) (read-told r ∷ [])
+read-told-is r is = LL.owed D.the-type D′.the-laws r _ is .0
 
-pub stats-is : (r : StatsAnswer) → Is C.the-row r (stats-rval r ∷ []) → Is T.the-row (r .stats) (LL.val T.the-type T′.the-laws (r .stats) ∷ [])
-stats-is r is = LL.owed C.the-type C′.the-laws r _ is .1 .0
+abbrev pub write-val : WriteAnswer → Val
+write-val = LL.val C.the-type C′.the-laws
 
--- the record with those counters in it
-pub stats-gc-is : (h : ControllerRecord) → Is G.the-row h (gval h ∷ []) → (r : StatsAnswer) → Is C.the-row r (stats-rval r ∷ [])
-    → Is G.the-row (withStats (r .stats) h) (gval (withStats (r .stats) h) ∷ [])
-stats-gc-is h g r is = LL.owes G.the-type G′.the-laws (withStats (r .stats) h) (stats-is r is, LL.owed G.the-type G′.the-laws h _ g .1)
+abbrev pub write-told : WriteAnswer → Val
+write-told r = LL.val W.the-type W′.the-laws (r .answer)
+
+pub write-told-is : (r : WriteAnswer) → Is C.the-row r (write-val r ∷ []) → Is W.the-row (r .answer) (write-told r ∷ [])
+write-told-is r is = LL.owed C.the-type C′.the-laws r _ is .0
+
+-- ---- the record with other latches, and with a counter raised
+
+-- what a field knows, before what those after it know
+with-more : {A B : Type 0} → A → B → A × B
+with-more a b = (a, b)
+
+-- four bytes
+abbrev pub four : FLaws (array-field u8-field 4)
+four = LL.array-laws u8-field LL.u8-laws 4
+
+-- a read's latches, as their row has them
+abbrev pub latches-of : ReadAnswer → array-field u8-field 4 .row .Denot
+latches-of r = array-field u8-field 4 .into (r .latches)
+
+pub latches-is : (r : ReadAnswer) → Is D.the-row r (read-val r ∷ []) → Is (array-field u8-field 4 .row) (latches-of r) (four .val (latches-of r) ∷ [])
+latches-is r is = LL.owed D.the-type D′.the-laws r _ is .1 .0
+
+pub latched-is : (h : ControllerRecord) → Is G.the-row h (gval h ∷ []) → (r : ReadAnswer) → Is D.the-row r (read-val r ∷ []) → let g = withLatches (r .latches) h in Is G.the-row g (gval g ∷ [])
+latched-is h is r ris =
+    let o = LL.owed G.the-type G′.the-laws h _ is in
+    let a = o .1 .1 .1 .1 .1 .1 in
+    let b = a .1 .1 .1 in
+    let last = with-more (b .0) (with-more (b .1 .0) (with-more (b .1 .1 .0) (with-more (latches-is r ris) (b .1 .1 .1 .1)))) in
+    let rest = with-more (a .0) (with-more (a .1 .0) (with-more (a .1 .1 .0) last)) in
+    LL.owes G.the-type G′.the-laws (withLatches (r .latches) h) (o .0, (o .1 .0, (o .1 .1 .0, (o .1 .1 .1 .0, (o .1 .1 .1 .1 .0, (o .1 .1 .1 .1 .1 .0, rest))))))
+
+-- a counter stays within its 32 bits
+pub one-more-fits : (x : ℕ) → (x + 1) % 2 ^ 32 < 2 ^ 32
+one-more-fits x = omega arith
+
+counter-is : (b : Bool) (x : ℕ) → Is u32 x (vint w32 x ∷ []) → let y = pick b ((x + 1) % 2 ^ 32) x in Is u32 y (vint w32 y ∷ [])
+counter-is true x is = (refl, one-more-fits x)
+counter-is false x is = is
+
+module _ (h : ControllerRecord) (is : Is G.the-row h (gval h ∷ [])) where
+  pub stats-is : Is T.the-row (h .stats) (LL.val T.the-type T′.the-laws (h .stats) ∷ [])
+  stats-is = LL.owed G.the-type G′.the-laws h _ is .0
+
+  pub counted-is : (n : ℕ) → Is G.the-row (withCount n h) (gval (withCount n h) ∷ [])
+  counted-is n =
+      let o = LL.owed T.the-type T′.the-laws (h .stats) _ stats-is in
+      let reads = with-more (counter-is (eqb n 4) _ (o .1 .1 .1 .1 .0)) (with-more (counter-is (eqb n 5) _ (o .1 .1 .1 .1 .1 .0)) (with-more (counter-is (eqb n 6) _ (o .1 .1 .1 .1 .1 .1 .0)) tt)) in
+      let writes = with-more (counter-is (eqb n 2) _ (o .1 .1 .0)) (with-more (counter-is (eqb n 3) _ (o .1 .1 .1 .0)) reads) in
+      let all = with-more (counter-is (eqb n 0) _ (o .0)) (with-more (counter-is (eqb n 1) _ (o .1 .0)) writes) in
+      LL.owes G.the-type G′.the-laws (withCount n h) (LL.owes T.the-type T′.the-laws (withCount n h .stats) all, LL.owed G.the-type G′.the-laws h _ is .1)

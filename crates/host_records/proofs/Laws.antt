@@ -1,27 +1,33 @@
 -- What the records' proofs cite: registers by number and back, what a record means and back, what a number leaves.
 use Prim.Native.Nat.{ℕ, zero, suc, _≤_}
 use native.Mathlib.Omega.{arith}
+use mathlib.Core.Logic.{_≢_}
 use mathlib.Core.Path.{_≡_, refl, sym}
 use mathlib.Core.Bool.{Bool, true, false}
 use lib.Dec.{leb}
 use borrow.Author.Tests.{leb-true}
-use Rattle.bits.specs.Bit.{bitOf}
+use Rattle.bits.specs.Bit.{bitOf, pick}
 use Rattle.machine_types.specs.declared.answer.Refusal.{Refusal}
 use Rattle.machine_types.specs.declared.answer.Refusal.the-variants.{Memory, Window, Offset, Plane, Place, State, Damaged, Range, Shift, Room}
 use Rattle.machine_types.specs.declared.gc.GraphicsController.{GraphicsController}
 use Rattle.machine_types.specs.declared.gc.GraphicsRegister.{GraphicsRegister}
 use Rattle.machine_types.specs.declared.gc.GraphicsRegister.the-variants.{SetReset, EnableSetReset, ColorCompare, DataRotate, ReadMapSelect, Mode, Miscellaneous, ColorDontCare, BitMask}
+use Rattle.machine_types.specs.declared.gc.ReadMode.{ReadMode}
+use Rattle.machine_types.specs.declared.gc.ReadMode.the-variants.{ReadSelectedPlane, ReadComparedPlanes}
+use Rattle.machine_types.specs.declared.gc.WriteMode.{WriteMode}
+use Rattle.machine_types.specs.declared.gc.WriteMode.the-variants.{Mode0, Mode1, Mode2, Mode3}
 use Rattle.machine_types.specs.declared.seq.Sequencer.{Sequencer}
 use Rattle.machine_types.specs.declared.seq.SequencerRegister.{SequencerRegister}
 use Rattle.machine_types.specs.declared.seq.SequencerRegister.the-variants.{Reset, ClockingMode, MapMask, CharacterMapSelect, MemoryMode, Invalid}
 use Rattle.machine.specs.Answers.{refusalNumber, Value, answered}
+use Rattle.machine.specs.Calls.{readCounter, writeCounter, refusedCounter, noCounter, isCounted}
 use Rattle.machine.specs.Graphics.{selects, registerNumber}
 use Rattle.machine.specs.Sequencer.{selectsSeq, seqNumber}
 use Rattle.machine.specs.Step.{lifted}
 use Rattle.machine.proofs.Laws.{both}
 use Rattle.host_records.specs.declared.record.ControllerRecord.{ControllerRecord}
 use Rattle.host_records.specs.declared.record.SequencerRecord.{SequencerRecord}
-use Rattle.host_records.specs.Records.{knownGc, knownSeq, knownBoth, isSet, controllerOf, controllerRecordOf, sequencerOf, sequencerRecordOf, leftBy, leftTo}
+use Rattle.host_records.specs.Records.{knownGc, knownSeq, knownBoth, isSet, controllerOf, controllerRecordOf, sequencerOf, sequencerRecordOf, withCount, counterOf, leftBy, leftTo}
 
 -- ---- registers by number
 
@@ -133,3 +139,24 @@ left-same (suc n) x = refl
 pub left-lifted : {S T : Type 0} (f : S → T) (n : ℕ) (v : Value) (new old : S) (kept : T) → f old ≡ kept → leftTo f (answered n v new old) kept ≡ lifted f (answered n v new old)
 left-lifted f zero v new old kept e = refl
 left-lifted f (suc n) v new old kept e = rw (← e)
+
+-- ---- which counter goes up
+
+-- no other than the access's own and that of the refused
+pub no-count : (k n own : ℕ) → k ≡ counterOf n own → k ≢ own → k ≢ refusedCounter → (g : ControllerRecord) → withCount k g ≡ g
+no-count k zero own e h j g = absurd (h e)
+no-count k (suc n) own e h j g = go (isCounted (suc n)) e
+  where
+    go : (b : Bool) → k ≡ pick b refusedCounter noCounter → withCount k g ≡ g
+    go true e = absurd (j e)
+    go false e = rw e
+
+pub no-write : (k : ℕ) (w : WriteMode) → k ≢ 0 → k ≢ 1 → k ≢ 2 → k ≢ 3 → k ≢ writeCounter w
+no-write k Mode0 a b c d = a
+no-write k Mode1 a b c d = b
+no-write k Mode2 a b c d = c
+no-write k Mode3 a b c d = d
+
+pub no-read : (k : ℕ) (r : ReadMode) → k ≢ 4 → k ≢ 5 → k ≢ readCounter r
+no-read k ReadSelectedPlane a b = a
+no-read k ReadComparedPlanes a b = b

@@ -1,6 +1,7 @@
 -- How a host's records, numbers alone, are read as the machine's, and the machine's as a host's.
 use Prim.Native.Nat.{ℕ, zero, suc}
 use mathlib.Core.Bool.{Bool, true, false, _&&_}
+use mathlib.Core.List.{List}
 use lib.Dec.{leb}
 use Rattle.bits.specs.Bit.{bitOf}
 use Rattle.machine_types.specs.declared.gc.GraphicsController.{GraphicsController}
@@ -8,6 +9,7 @@ use Rattle.machine_types.specs.declared.gc.GraphicsControllerStats.{GraphicsCon
 use Rattle.machine_types.specs.declared.gc.GraphicsRegister.the-variants.{BitMask}
 use Rattle.machine_types.specs.declared.seq.Sequencer.{Sequencer}
 use Rattle.machine.specs.Answers.{Outcome, outcome}
+use Rattle.machine.specs.Calls.{raised, refusedCounter, refusalCounter}
 use Rattle.machine.specs.Graphics.{selects, registerNumber, gcOf}
 use Rattle.machine.specs.Sequencer.{selectsSeq, seqNumber}
 use Rattle.host_records.specs.declared.record.StatsRecord.{StatsRecord}
@@ -115,6 +117,44 @@ withStats c g = record {
   latches = g .latches;
   spare = g .spare;
 }
+
+-- a host's record with other latches
+abbrev pub withLatches : List ℕ → ControllerRecord → ControllerRecord
+withLatches l g = record {
+  stats = g .stats;
+  «register_select_byte» = g .«register_select_byte»;
+  «register_selected» = g .«register_selected»;
+  «set_reset» = g .«set_reset»;
+  «enable_set_reset» = g .«enable_set_reset»;
+  «color_compare» = g .«color_compare»;
+  «data_rotate» = g .«data_rotate»;
+  «read_map_select» = g .«read_map_select»;
+  mode = g .mode;
+  miscellaneous = g .miscellaneous;
+  «color_dont_care» = g .«color_dont_care»;
+  bitmask = g .bitmask;
+  latches = l;
+  spare = g .spare;
+}
+
+-- a host's record with one more in the counter of a number; 7 is none
+abbrev pub withCount : ℕ → ControllerRecord → ControllerRecord
+withCount n g = withStats
+    (record {
+      «mode_0_writes» = raised n 0 (g .stats .«mode_0_writes»);
+      «mode_1_writes» = raised n 1 (g .stats .«mode_1_writes»);
+      «mode_2_writes» = raised n 2 (g .stats .«mode_2_writes»);
+      «mode_3_writes» = raised n 3 (g .stats .«mode_3_writes»);
+      «mode_0_reads» = raised n 4 (g .stats .«mode_0_reads»);
+      «mode_1_reads» = raised n 5 (g .stats .«mode_1_reads»);
+      «refused_accesses» = raised n 6 (g .stats .«refused_accesses»);
+    })
+    g
+
+-- the counter that an access raises, by its answer's number: its own where it is accepted, that of the refused where it is refused with 2 or 3
+abbrev pub counterOf : ℕ → ℕ → ℕ
+counterOf zero own = own
+counterOf (suc n) own = refusalCounter (suc n) refusedCounter
 
 -- the sequencer that a host's record of known number means
 abbrev pub sequencerOf : SequencerRecord → Sequencer

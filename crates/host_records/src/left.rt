@@ -1,26 +1,20 @@
-// An answer with the record that a call leaves, as a host keeps it, and refusal 6 with the record as it was handed in.
+// An answer with what a call leaves of a host's record, the whole or what moved, and refusal 6 with the record as it was handed in.
 ghost use mathlib.Core.Path.{_≡_};
-ghost use Rattle.machine.specs.Answers.{said, one, changes, outcome, storeSaid, doneSaid, flagSaid};
+ghost use Rattle.machine.specs.Answers.{said, one, outcome, doneSaid, flagSaid};
 ghost use Rattle.machine.specs.Step.{lifted};
-ghost use Rattle.host_records.specs.Records.{statsRecordOf, controllerRecordOf, sequencerRecordOf, leftTo};
+ghost use Rattle.host_records.specs.Records.{counterOf, controllerRecordOf, sequencerRecordOf, leftTo};
 ghost use Rattle.answers.specs.Answers.{answerSaid};
-ghost use Rattle.answers.specs.Wide.{StoredAs};
 use crate::record::ControllerRecord;
 use crate::record::SequencerRecord;
-use crate::record::StatsRecord;
 use crate::record::of_controller;
 use crate::record::of_sequencer;
-use crate::record::of_stats;
 use answers::Answer;
 use answers::Stored;
 use answers::done;
 use answers::given;
 use answers::of_done;
-use answers::of_store;
 use answers::refused;
 use answers::unknown;
-use answers::unknown_stored;
-use machine_types::CpuStore;
 use machine_types::DoneAnswer;
 use machine_types::FlagAnswer;
 use machine_types::GraphicsDone;
@@ -40,10 +34,17 @@ pub struct ControllerAnswer {
     pub gc: ControllerRecord,
 }
 
-// A write's answer and the counters as they are left.
-pub struct StatsAnswer {
+// A read's answer, the latches as they are left, and the number of the counter that goes up: 7 is none.
+pub struct ReadAnswer {
+    pub answer: Answer,
+    pub latches: [u8; 4],
+    pub counter: u8,
+}
+
+// A write's answer and the number of the counter that goes up.
+pub struct WriteAnswer {
     pub answer: Stored,
-    pub stats: StatsRecord,
+    pub counter: u8,
 }
 
 pub fn unknown_sequencer(seq: SequencerRecord) -> SequencerAnswer
@@ -64,13 +65,14 @@ pub fn unknown_controller(gc: ControllerRecord) -> ControllerAnswer
     }
 }
 
-pub fn unknown_counters(gc: ControllerRecord) -> StatsAnswer
-    ensures { λ r. ⌜ StoredAs (r .answer) (r .stats) (outcome (said 6 (changes 0 0 0 0)) (gc .stats)) ⌝ }
+// The number of the counter that an access raises, by its answer's number: its own where it is accepted, 6 where it is refused with 2 or 3.
+pub fn counter_of(number: u8, own: u8) -> u8
+    ensures { λ r. ⌜ r ≡ counterOf number own ⌝ }
 {
-    let stats = gc.stats;
-    StatsAnswer {
-        answer: unknown_stored(),
-        stats,
+    match number {
+        0 => own,
+        2 | 3 => 6,
+        _ => 7,
     }
 }
 
@@ -118,18 +120,5 @@ pub fn of_graphics_done(spare: u8, left: GraphicsDone) -> ControllerAnswer
     ControllerAnswer {
         answer: of_done(answer),
         gc: of_controller(next, spare),
-    }
-}
-
-// A write moves no register and no latch: the counters alone come back, beside how much it changed.
-pub fn of_cpu_store(left: CpuStore) -> StatsAnswer
-    ensures { λ r. ⌜ StoredAs (r .answer) (r .stats) (outcome (storeSaid (left .answer)) (statsRecordOf (left .gc .stats))) ⌝ }
-{
-    let answer = left.answer;
-    let gc = left.gc;
-    let stats = gc.stats;
-    StatsAnswer {
-        answer: of_store(answer),
-        stats: of_stats(stats),
     }
 }

@@ -96,7 +96,7 @@ fn to_stats(kept: StatsRecord) -> GraphicsControllerStats
     }
 }
 
-pub fn of_stats(stats: GraphicsControllerStats) -> StatsRecord
+fn of_stats(stats: GraphicsControllerStats) -> StatsRecord
     ensures { λ r. ⌜ r ≡ statsRecordOf stats ⌝ }
 {
     StatsRecord {

@@ -1,10 +1,9 @@
--- `write_of` answers 6 where a number selects no register, else as `cpu_write_u8` of the records that are meant; the counters alone move.
-use mathlib.Core.Path.{refl, ap}
+-- `write_of` answers 6 where a number selects no register, else as `cpu_write_u8` of the records that are meant; one counter moves.
+use mathlib.Core.Path.{refl, ap, _∙_}
 use Rattle.machine.specs.Memory.{mem}
 use Rattle.machine.specs.Answers.{changes, said}
-use Rattle.host_records.specs.declared.record.StatsRecord.{StatsRecord}
-use Rattle.host_records.specs.Records.{withStats}
-use Rattle.host_calls.proofs.Laws.{unknown-of, known-of, cpu-unknown, cpu-wrote, stored-as}
+use Rattle.host_records.specs.Records.{controllerOf, counterOf}
+use Rattle.host_calls.proofs.Laws.{unknown-of, known-of, cpu-unknown, cpu-wrote, stored-as, write-own}
 use borrow.Author.Needs.{needs}
 use Rattle.host_calls.proofs.write_of.Statement.{statement}
 use Rattle.host_calls.proofs.write_of.Tie as tie
@@ -19,8 +18,8 @@ is-set-of after-cpu-write-u8 = search needs
 known-requires : tie.Need-known-requires
 known-requires c κs = search needs
 
-unknown-counters-requires : tie.Need-unknown-counters-requires
-unknown-counters-requires c κs = search needs
+unknown-stored-requires : tie.Need-unknown-stored-requires
+unknown-stored-requires c κs = search needs
 
 returns : tie.Need-returns
 returns c =
@@ -28,9 +27,8 @@ returns c =
     let start : tie.Start = search needs in
     let a = start .args in
     let m = mem (a .p0 .now) (a .p1 .now) (a .p2 .now) (a .p3 .now) (a .picture .now) in
-    let e = c .unknown-counters .ensures in
-    stored-as (said 6 (changes 0 0 0 0)) _ _ _ (e .0) (cpu-unknown (a .gc) (a .seq) m (changes 0 0 0 0) _ (unknown-of (c .before .if1 .taken) (after-known .known .ensures)) _ _ refl
-    (ap (λ (t : StatsRecord). withStats t (a .gc)) (e .1)))
+    let e = c .unknown-stored .ensures in
+    (stored-as (said 6 (changes 0 0 0 0)) _ _ _ e (cpu-unknown (a .gc) (a .seq) m (changes 0 0 0 0) _ (unknown-of (c .before .if1 .taken) (after-known .known .ensures)) _ _ refl refl), rw e)
 
 to-controller-requires : tie.Need-to-controller-requires
 to-controller-requires c κs = search needs
@@ -44,8 +42,11 @@ is-set-requires c κs = search needs
 cpu-write-u8-requires : tie.Need-cpu-write-u8-requires
 cpu-write-u8-requires c κs = search needs
 
-of-cpu-store-requires : tie.Need-of-cpu-store-requires
-of-cpu-store-requires c κs = search needs
+of-store-requires : tie.Need-of-store-requires
+of-store-requires c κs = search needs
+
+counter-of-requires : tie.Need-counter-of-requires
+counter-of-requires c κs = search needs
 
 same-length : tie.Need-same-length
 same-length c = search needs
@@ -65,6 +66,7 @@ same-length-5 c = search needs
 returns-2 : tie.Need-returns-2
 unfolding start-of is-set-of
 returns-2 c =
+    let after-of-store : tie.After-of-store = search needs in
     let after-cpu-write-u8 : tie.After-cpu-write-u8 = search needs in
     let after-is-set = is-set-of after-cpu-write-u8 in
     let after-to-sequencer = after-is-set .before in
@@ -74,21 +76,27 @@ returns-2 c =
     let start = start-of after-known in
     let a = start .args in
     let m = mem (a .p0 .now) (a .p1 .now) (a .p2 .now) (a .p3 .now) (a .picture .now) in
-    rw (← after-is-set .is-set .ensures) (cpu-wrote (a .gc) (a .seq) m (changes 0 0 0 0) (a .address) _ (a .byte) (known-of (else1 .if1 .left) (after-known .known .ensures)) _ _
-    (after-to-controller .to-controller .ensures) (after-to-sequencer .to-sequencer .ensures) _ _ _ _ _ (c .of-cpu-store .ensures) (after-cpu-write-u8 .cpu-write-u8 .ensures))
+    let counts = c .counter-of .ensures ∙ ap (counterOf (after-of-store .of-store .result .number)) (write-own (controllerOf (a .gc) .registers)) in
+    rw (← after-is-set .is-set .ensures) (
+      cpu-wrote (a .gc) (a .seq) m (changes 0 0 0 0) (a .address) _ (known-of (else1 .if1 .left) (after-known .known .ensures)) _ _
+          (after-to-controller .to-controller .ensures) (after-to-sequencer .to-sequencer .ensures) _ _ _ (a .byte) _ _ (after-of-store .of-store .ensures) counts
+          (after-cpu-write-u8 .cpu-write-u8 .ensures),
+      counts,
+    )
 
 pub write-of-spec : {M : Type 1} → statement M
 write-of-spec =
     tie.close
     (tie.spec
     known-requires
-    unknown-counters-requires
+    unknown-stored-requires
     returns
     to-controller-requires
     to-sequencer-requires
     is-set-requires
     cpu-write-u8-requires
-    of-cpu-store-requires
+    of-store-requires
+    counter-of-requires
     same-length
     same-length-2
     same-length-3

@@ -1,6 +1,6 @@
--- `iddesmar_gc_cpu_write_u8_2` meets its contract: a walk of its MIR, by hand. The controller's borrow is opened and copied out, the sequencer's record is looked into, the five slices go to `write_of` for good, its answer is taken apart, and the borrow is closed at the record that it gives.
+-- `iddesmar_gc_cpu_write_u8_2` meets its contract: a walk of its MIR, by hand. The controller's borrow is opened and copied out, the sequencer's record is looked into, the five slices go to `write_of` for good, its answer is taken apart, and the borrow is closed at the record with one counter raised.
 -- Written by host/walks. Assumes nothing.
-use mathlib.Core.Path.{_≡_, refl}
+use mathlib.Core.Path.{_≡_, refl, subst}
 use Prim.Native.Nat.{ℕ, _<_, _^_}
 use mathlib.Core.List.{[], _∷_, List}
 use lib.ListN.{length}
@@ -12,13 +12,13 @@ use base.Logic.{SProp, ent, emp, via, fst∗, id⊢}
 use base.Fml.{GName, Lft, Share, ftrue, flft, fobs, fbor, fat}
 use prog.Memory.{Memory}
 use prog.Routine.{Routine}
-use prog.Wp.{Heap, Calls, Loops, WpFn, Tables}
+use prog.Wp.{Heap, Env, Calls, Loops, WpFn, Tables}
 use ghost.Atoms.{Atoms}
 use contract.Lifetimes.{Lfts}
 use contract.Monad.{Fun, fact}
 use contract.Running.{givenOf, tables, tablesOf}
-use types.Kit.{Given, ‵, raw, _⊛_, some, later, ⋆, _$_, _∵_, !, qed, by, move, keep, drop, use1, use2, split, join, pick, rewrite, fsplit, fsplit3, fjoin, fjoin3, feqI, feqL, suffices, frame, await, done}
-use types.Run.{look, look-raw, init, forget, stop, hop, fld, from, load, addr, and-then, no-more, of-opd, assigns, land, returns, enter, alloc1, alloc0, params1, pass1, pass0, free1, free0}
+use types.Kit.{Given, atRet, ‵, raw, _⊛_, some, later, ⋆, _$_, _∵_, !, qed, by, move, keep, drop, use1, use2, split, join, pick, rewrite, fsplit, fsplit3, fjoin, fjoin3, feqI, feqL, suffices, frame, await, done}
+use types.Run.{look, look-raw, init, forget, stop, hop, fld, from, load, lit, addr, and-then, no-more, of-opd, assigns, assigns-last, land, first, skips, switches, returns, enter, alloc1, alloc0, params1, pass1, pass0, free1, free0, exec}
 use types.Part.{whole, sub, look-in, store-in, agg}
 use types.SemTy.{Body}
 use sound.WpLaws.{FmC, fmOf, WpFn-mono}
@@ -42,10 +42,10 @@ use denote.Triple.Walked.{says, Stays, stay-ref, stay-dropped, gave-slice, walkO
 use denote.Triple.Clauses.{ensured, lasts}
 use denote.Exit.{yes}
 use Rattle.machine.specs.Memory.{mem as memory}
-use Rattle.machine.specs.Answers.{changes}
+use Rattle.machine.specs.Answers.{one, changes}
 use Rattle.machine.specs.Calls.{cpuWrite}
 use Rattle.answers.specs.Wide.{StoredAs}
-use Rattle.host_records.specs.Records.{isSet}
+use Rattle.host_records.specs.Records.{isSet, controllerOf}
 use Rattle.host_calls.specs.Hosted.{held, cpuHosted}
 use Rattle.host_records.specs.declared.record.ControllerRecord.{ControllerRecord}
 use Rattle.host_records.specs.declared.record.SequencerRecord.{SequencerRecord}
@@ -55,13 +55,20 @@ use Rattle.host_records.proofs.record.SequencerRecord as S
 use Rattle.host_records.proofs.record.SequencerRecord.Laws as S′
 use Rattle.answers.proofs.wide.Stored as N
 use Rattle.answers.proofs.wide.Stored.Laws as N′
-use Rattle.host_records.specs.declared.left.StatsAnswer.{StatsAnswer}
-use Rattle.host_records.proofs.left.StatsAnswer as R
-use Rattle.host_records.proofs.left.StatsAnswer.Laws as R′
-use Rattle.host_records.proofs.InPlace.{Bytes, gval, sval, head-is, stats-rval, stats-aval, stats-an-is, stats-is, stats-gc-is}
-use Rattle.host_records.specs.Records.{withStats}
+use Rattle.machine.specs.Calls.{writeCounter}
+use Rattle.machine.specs.Graphics.{writeMode}
+use Rattle.std.proofs.num.wrapping_add_u32.Symbol as sum-def
+use Rattle.std.proofs.num.wrapping_add_u32.Symbol.{name as #sum}
+use Rattle.std.proofs.num.wrapping_add_u32.Met as sum-thm
+use Rattle.host_records.specs.declared.left.WriteAnswer.{WriteAnswer}
+use Rattle.host_records.specs.Records.{controllerOf, withCount, counterOf}
 use Rattle.host_records.proofs.record.StatsRecord as T
 use Rattle.host_records.proofs.record.StatsRecord.Laws as T′
+use Rattle.host_records.proofs.left.WriteAnswer as R
+use Rattle.host_records.proofs.left.WriteAnswer.Laws as R′
+use Rattle.host_records.proofs.Laws.{no-count, no-write}
+use Rattle.host_records.proofs.InPlace.{Bytes, gval, sval, head-is, write-val, write-told, write-told-is, stats-is, one-more-fits, counted-is}
+use Rattle.host.proofs.Counting.{Summed, envOf, sums}
 use Rattle.host_calls.proofs.write_of as by-value
 use Rattle.host_calls.proofs.write_of.Symbol as by-value-def
 use Rattle.host_calls.proofs.write_of.Symbol.{name as #by-value}
@@ -70,6 +77,7 @@ use Rattle.host.proofs.access.iddesmar_gc_cpu_write_u8_2.Key.{name as #
 use Rattle.host.proofs.access.iddesmar_gc_cpu_write_u8_2 as place
 use Rattle.host.proofs.access.iddesmar_gc_cpu_write_u8_2.Statement as stated
 use Rattle.host.proofs.access.iddesmar_gc_cpu_write_u8_2.Code as code
+use Rattle.host.proofs.access.iddesmar_gc_cpu_write_u8_2.Code.Mir as text
 
 abbrev stayed : Stays (place.ended .signature .params) (place.ended .kept)
 stayed = (stay-ref (0 ∷ []) tt (plain (λ _. G.the-row)), (stay-dropped (shrRefTo (1 ∷ []) tt (plain (λ _. S.the-row))) yes, (gave-slice (2 ∷ []) tt (plain (λ _. u8)), (gave-slice (3 ∷ []) tt (plain (λ _. u8)), (gave-slice (4 ∷ []) tt (plain (λ _. u8)), (gave-slice (5 ∷ []) tt (plain (λ _. u8)), (gave-slice (6 ∷ []) tt (plain (λ _. u8)), (stay-dropped (plain (λ _. usize)) yes, (stay-dropped (plain (λ _. u8)) yes, (stay-dropped (plain (λ _. u8)) yes, tt))))))))))
@@ -118,62 +126,66 @@ module _ {M : Type 1} (𝓤 : URA M) (H : Heap 𝓤) (A : Atoms 𝓤) (W : Given
   goes : ent 𝓤 (⋆ 𝓤 H A ((‵ (flft κ2 q2) ⊛ ‵ (flft κ3 q3) ⊛ ‵ (flft κ4 q4) ⊛ ‵ (flft κ5 q5) ⊛ ‵ (flft κ6 q6) ⊛ ‵ ftrue) ∷ ‵ (owns (G.the-row ∷ S.the-row ∷ MutSlice (named 0) κ2 u8 ∷ MutSlice (named 1) κ3 u8 ∷ MutSlice (named 2) κ4 u8 ∷ MutSlice (named 3) κ5 u8 ∷ MutSlice (named 4) κ6 u8 ∷ usize ∷ u8 ∷ u8 ∷ []) handed handedv) ∷ [])) (Called 𝓤 H A at-mem run .pre to)
   goes = qed W ((‵ (flft κ2 q2) ⊛ ‵ (flft κ3 q3) ⊛ ‵ (flft κ4 q4) ⊛ ‵ (flft κ5 q5) ⊛ ‵ (flft κ6 q6) ⊛ ‵ ftrue) ∷ ‵ (owns (G.the-row ∷ S.the-row ∷ MutSlice (named 0) κ2 u8 ∷ MutSlice (named 1) κ3 u8 ∷ MutSlice (named 2) κ4 u8 ∷ MutSlice (named 3) κ5 u8 ∷ MutSlice (named 4) κ6 u8 ∷ usize ∷ u8 ∷ u8 ∷ []) handed handedv) ∷ []) ∵ join ! $ frame ! $ done !
 
-  exits : (r : StatsAnswer) (p0-end p1-end p2-end p3-end picture-end : List ℕ) → Is R.the-row r (stats-rval r ∷ []) → StoredAs (r .answer) (held (withStats (r .stats) h) (memory p0-end p1-end p2-end p3-end picture-end)) (cpuHosted h seq (memory (p0 .now) (p1 .now) (p2 .now) (p3 .now) (picture .now)) (changes 0 0 0 0) (cpuWrite address (isSet page) byte)) → length p0-end ≡ length (p0 .now) → length p1-end ≡ length (p1 .now) → length p2-end ≡ length (p2 .now) → length p3-end ≡ length (p3 .now) → length picture-end ≡ length (picture .now) → ent 𝓤 (⋆ 𝓤 H A (‵ (fobs γ (G.the-row .coded .code (withStats (r .stats) h))) ∷ ‵ (fbor κ0 (Body (mem G.the-row) b o γ)) ∷ ‵ (flft κ0 q0) ∷ ‵ (flft κ1 q1) ∷ (‵ (flft κ2 q2) ⊛ ‵ (flft κ3 q3) ⊛ ‵ (flft κ4 q4) ⊛ ‵ (flft κ5 q5) ⊛ ‵ (flft κ6 q6) ⊛ ‵ ftrue) ∷ ‵ (finally u8 (p0 .name) p0-end) ∷ ‵ (finally u8 (p1 .name) p1-end) ∷ ‵ (finally u8 (p2 .name) p2-end) ∷ ‵ (finally u8 (p3 .name) p3-end) ∷ ‵ (finally u8 (picture .name) picture-end) ∷ [])) (Post (stats-aval r))
-  exits r p0-end p1-end p2-end p3-end picture-end is e p0-long p1-long p2-long p3-long picture-long =
-      qed W (‵ (fobs γ (G.the-row .coded .code (withStats (r .stats) h))) ∷ ‵ (fbor κ0 (Body (mem G.the-row) b o γ)) ∷ ‵ (flft κ0 q0) ∷ ‵ (flft κ1 q1) ∷ (‵ (flft κ2 q2) ⊛ ‵ (flft κ3 q3) ⊛ ‵ (flft κ4 q4) ⊛ ‵ (flft κ5 q5) ⊛ ‵ (flft κ6 q6) ⊛ ‵ ftrue) ∷ ‵ (finally u8 (p0 .name) p0-end) ∷ ‵ (finally u8 (p1 .name) p1-end) ∷ ‵ (finally u8 (p2 .name) p2-end) ∷ ‵ (finally u8 (p3 .name) p3-end) ∷ ‵ (finally u8 (picture .name) picture-end) ∷ []) ∵
-      suffices ! _ (ends-at 𝓤 H A place.ended stayed (place.clauses 𝓤 H A at-mem run) W (((κ0, (κ1, (κ2, (κ3, (κ4, (κ5, (κ6, tt))))))), (q0, (q1, (q2, (q3, (q4, (q5, (q6, tt))))))), tt, a, vals), tt) (stats-aval r) (r .answer) (withStats (r .stats) h, (tt, (p0-end, (p1-end, (p2-end, (p3-end, (picture-end, (tt, (tt, (tt, tt)))))))))) (tt, (tt, (p0-long, (p1-long, (p2-long, (p3-long, (picture-long, (tt, (tt, (tt, tt))))))))))) $ says ! e $
+  -- what the contract says of an answer and what is left
+  abbrev Ends : WriteAnswer → ControllerRecord → List ℕ → List ℕ → List ℕ → List ℕ → List ℕ → Type 0
+  Ends r g p0-end p1-end p2-end p3-end picture-end = StoredAs (r .answer) (held g (memory p0-end p1-end p2-end p3-end picture-end)) (cpuHosted h seq (memory (p0 .now) (p1 .now) (p2 .now) (p3 .now) (picture .now)) (changes 0 0 0 0) (cpuWrite address (isSet page) byte))
+
+  exits : (r : WriteAnswer) (g : ControllerRecord) (p0-end p1-end p2-end p3-end picture-end : List ℕ) → Is R.the-row r (write-val r ∷ []) → Ends r g p0-end p1-end p2-end p3-end picture-end → length p0-end ≡ length (p0 .now) → length p1-end ≡ length (p1 .now) → length p2-end ≡ length (p2 .now) → length p3-end ≡ length (p3 .now) → length picture-end ≡ length (picture .now) → ent 𝓤 (⋆ 𝓤 H A (‵ (fobs γ (G.the-row .coded .code (g))) ∷ ‵ (fbor κ0 (Body (mem G.the-row) b o γ)) ∷ ‵ (flft κ0 q0) ∷ ‵ (flft κ1 q1) ∷ (‵ (flft κ2 q2) ⊛ ‵ (flft κ3 q3) ⊛ ‵ (flft κ4 q4) ⊛ ‵ (flft κ5 q5) ⊛ ‵ (flft κ6 q6) ⊛ ‵ ftrue) ∷ ‵ (finally u8 (p0 .name) p0-end) ∷ ‵ (finally u8 (p1 .name) p1-end) ∷ ‵ (finally u8 (p2 .name) p2-end) ∷ ‵ (finally u8 (p3 .name) p3-end) ∷ ‵ (finally u8 (picture .name) picture-end) ∷ [])) (Post (write-told r))
+  exits r g p0-end p1-end p2-end p3-end picture-end is e p0-long p1-long p2-long p3-long picture-long =
+      qed W (‵ (fobs γ (G.the-row .coded .code (g))) ∷ ‵ (fbor κ0 (Body (mem G.the-row) b o γ)) ∷ ‵ (flft κ0 q0) ∷ ‵ (flft κ1 q1) ∷ (‵ (flft κ2 q2) ⊛ ‵ (flft κ3 q3) ⊛ ‵ (flft κ4 q4) ⊛ ‵ (flft κ5 q5) ⊛ ‵ (flft κ6 q6) ⊛ ‵ ftrue) ∷ ‵ (finally u8 (p0 .name) p0-end) ∷ ‵ (finally u8 (p1 .name) p1-end) ∷ ‵ (finally u8 (p2 .name) p2-end) ∷ ‵ (finally u8 (p3 .name) p3-end) ∷ ‵ (finally u8 (picture .name) picture-end) ∷ []) ∵
+      suffices ! _ (ends-at 𝓤 H A place.ended stayed (place.clauses 𝓤 H A at-mem run) W (((κ0, (κ1, (κ2, (κ3, (κ4, (κ5, (κ6, tt))))))), (q0, (q1, (q2, (q3, (q4, (q5, (q6, tt))))))), tt, a, vals), tt) (write-told r) (r .answer) (g, (tt, (p0-end, (p1-end, (p2-end, (p3-end, (picture-end, (tt, (tt, (tt, tt)))))))))) (tt, (tt, (p0-long, (p1-long, (p2-long, (p3-long, (picture-long, (tt, (tt, (tt, tt))))))))))) $ says ! e $
       move ! (3 ∷ 4 ∷ []) $ join ! $ move ! (3 ∷ 0 ∷ []) $ join ! $ frame ! $
       -- [obs; the borrow; the last lists]
       nothing ! $ nothing ! $ fjoin ! $ nothing ! $ fjoin ! $ nothing ! $ fjoin ! $ move ! (7 ∷ 0 ∷ []) $ fjoin ! $ move ! (6 ∷ 0 ∷ []) $ fjoin ! $ move ! (5 ∷ 0 ∷ []) $ fjoin ! $ move ! (4 ∷ 0 ∷ []) $ fjoin ! $ move ! (3 ∷ 0 ∷ []) $ fjoin ! $ nothing ! $ fjoin ! $
       feqI ! (List Val) (vptr b o ∷ []) (vptr b o ∷ []) refl $ move ! (0 ∷ 2 ∷ 3 ∷ []) $ fjoin3 ! $ fjoin ! $
-      owned ! N.the-row (Is N.the-row) (LL.makes N.the-type N′.the-plain 𝓤 H A) (r .answer) _ (stats-an-is r is) $ move ! (1 ∷ 0 ∷ []) $ done !
+      owned ! N.the-row (Is N.the-row) (LL.makes N.the-type N′.the-plain 𝓤 H A) (r .answer) _ (write-told-is r is) $ move ! (1 ∷ 0 ∷ []) $ done !
 
-  module _ (C : Calls 𝓤 H) (Λ : Loops 𝓤 H) (fm : FmC 𝓤 H (W .laws) C) (known : Triple 𝓤 (C #by-value) (Called 𝓤 H A at-mem run)) where
+  module _ (C : Calls 𝓤 H) (Λ : Loops 𝓤 H) (fm : FmC 𝓤 H (W .laws) C) (known : Triple 𝓤 (C #by-value) (Called 𝓤 H A at-mem run)) (adds : Triple 𝓤 (C #sum) (Summed 𝓤 H A at-mem run)) where
     walk : ent 𝓤 (onEntry 𝓤 H A place.signature (κ0, (κ1, (κ2, (κ3, (κ4, (κ5, (κ6, tt))))))) (q0, (q1, (q2, (q3, (q4, (q5, (q6, tt))))))) a vals) (WpFn 𝓤 H C Λ code.function (vptr b o ∷ vptr c p ∷ sliceVal (p0 .ptr) (length (p0 .now)) ∷ sliceVal (p1 .ptr) (length (p1 .now)) ∷ sliceVal (p2 .ptr) (length (p2 .now)) ∷ sliceVal (p3 .ptr) (length (p3 .now)) ∷ sliceVal (picture .ptr) (length (picture .now)) ∷ vint w64 address ∷ vint w8 page ∷ vint w8 byte ∷ []) Post)
     walk =
         qed W ((‵ (flft κ0 q0) ⊛ ‵ (flft κ1 q1) ⊛ ‵ (flft κ2 q2) ⊛ ‵ (flft κ3 q3) ⊛ ‵ (flft κ4 q4) ⊛ ‵ (flft κ5 q5) ⊛ ‵ (flft κ6 q6) ⊛ ‵ ftrue) ∷ ‵ (owns (MutRef (named 0) κ0 G.the-row ∷ ShrRef (named 1) κ1 S.the-row ∷ MutSlice (named 2) κ2 u8 ∷ MutSlice (named 3) κ3 u8 ∷ MutSlice (named 4) κ4 u8 ∷ MutSlice (named 5) κ5 u8 ∷ MutSlice (named 6) κ6 u8 ∷ usize ∷ u8 ∷ u8 ∷ []) a vals) ∷ []) ∵ enter ! C Λ code.function (vptr b o ∷ vptr c p ∷ sliceVal (p0 .ptr) (length (p0 .now)) ∷ sliceVal (p1 .ptr) (length (p1 .now)) ∷ sliceVal (p2 .ptr) (length (p2 .now)) ∷ sliceVal (p3 .ptr) (length (p3 .now)) ∷ sliceVal (picture .ptr) (length (picture .now)) ∷ vint w64 address ∷ vint w8 page ∷ vint w8 byte ∷ []) _ $
-        alloc1 ! (λ l0. alloc1 ! (λ l1. alloc1 ! (λ l2. alloc1 ! (λ l3. alloc1 ! (λ l4. alloc1 ! (λ l5. alloc1 ! (λ l6. alloc1 ! (λ l7. alloc1 ! (λ l8. alloc1 ! (λ l9. alloc1 ! (λ l10. alloc1 ! (λ l11. alloc1 ! (λ l12. alloc1 ! (λ l13. alloc1 ! (λ l14. alloc1 ! (λ l15. alloc1 ! (λ l16. alloc1 ! (λ l17. alloc1 ! (λ l18. alloc1 ! (λ l19. alloc1 ! (λ l20. alloc1 ! (λ l21. alloc1 ! (λ l22. alloc1 ! (λ l23. alloc0 ! $ params1 ! $
-        pass1 ! (init ! 44 refl (tt, tt)) $
-        pass1 ! (init ! 42 refl (tt, tt)) $
-        pass1 ! (init ! 40 refl (tt, (tt, (record { fits = p0-room .0 }, tt)))) $
-        pass1 ! (init ! 38 refl (tt, (tt, (record { fits = p1-room .0 }, tt)))) $
-        pass1 ! (init ! 36 refl (tt, (tt, (record { fits = p2-room .0 }, tt)))) $
-        pass1 ! (init ! 34 refl (tt, (tt, (record { fits = p3-room .0 }, tt)))) $
-        pass1 ! (init ! 32 refl (tt, (tt, (record { fits = picture-room .0 }, tt)))) $
-        pass1 ! (init ! 30 refl (tt, record { fits = address-fits })) $
-        pass1 ! (init ! 28 refl (tt, record { fits = page-fits })) $
-        pass1 ! (init ! 26 refl (tt, record { fits = byte-fits })) $
-        pass0 ! $ move ! (48 ∷ 49 ∷ []) $
+        alloc1 ! (λ l0. alloc1 ! (λ l1. alloc1 ! (λ l2. alloc1 ! (λ l3. alloc1 ! (λ l4. alloc1 ! (λ l5. alloc1 ! (λ l6. alloc1 ! (λ l7. alloc1 ! (λ l8. alloc1 ! (λ l9. alloc1 ! (λ l10. alloc1 ! (λ l11. alloc1 ! (λ l12. alloc1 ! (λ l13. alloc1 ! (λ l14. alloc1 ! (λ l15. alloc1 ! (λ l16. alloc1 ! (λ l17. alloc1 ! (λ l18. alloc1 ! (λ l19. alloc1 ! (λ l20. alloc1 ! (λ l21. alloc1 ! (λ l22. alloc1 ! (λ l23. alloc1 ! (λ l24. alloc1 ! (λ l25. alloc1 ! (λ l26. alloc1 ! (λ l27. alloc1 ! (λ l28. alloc1 ! (λ l29. alloc1 ! (λ l30. alloc1 ! (λ l31. alloc1 ! (λ l32. alloc1 ! (λ l33. alloc0 ! $ params1 ! $
+        pass1 ! (init ! 64 refl (tt, tt)) $
+        pass1 ! (init ! 62 refl (tt, tt)) $
+        pass1 ! (init ! 60 refl (tt, (tt, (record { fits = p0-room .0 }, tt)))) $
+        pass1 ! (init ! 58 refl (tt, (tt, (record { fits = p1-room .0 }, tt)))) $
+        pass1 ! (init ! 56 refl (tt, (tt, (record { fits = p2-room .0 }, tt)))) $
+        pass1 ! (init ! 54 refl (tt, (tt, (record { fits = p3-room .0 }, tt)))) $
+        pass1 ! (init ! 52 refl (tt, (tt, (record { fits = picture-room .0 }, tt)))) $
+        pass1 ! (init ! 50 refl (tt, record { fits = address-fits })) $
+        pass1 ! (init ! 48 refl (tt, record { fits = page-fits })) $
+        pass1 ! (init ! 46 refl (tt, record { fits = byte-fits })) $
+        pass0 ! $ move ! (68 ∷ 69 ∷ []) $
         -- the borrow of the controller's record is opened
         move ! (1 ∷ []) $ fsplit ! $ fsplit3 ! $ drop ! $ move ! (3 ∷ []) $ split ! $ move ! (2 ∷ 3 ∷ 0 ∷ []) $
         opens ! tt G.the-row {h = h} b o (λ vs. spelt ! G.the-row (Is G.the-row) (shows 𝓤 H A G.the-row) (LL.vals G.the-type G′.the-laws) (LL.tells G.the-type G′.the-laws) fullShare h vs b o $
         use1 W (‵ (fat fullShare G′.mir b o (gval h))) (W .laws .raw-at fullShare G′.mir b o (gval h)) $
         move ! (1 ∷ []) $ peeks ! G.the-row (Is G.the-row) (shows 𝓤 H A G.the-row) h (gval h ∷ []) (λ h-is. move ! (1 ∷ 0 ∷ []) $
         -- [its cell; what it owns; the open borrow; obs; auth; the tokens; what the others own; the last local; …; room for _0; …]
-        assigns ! (of-opd ! (load ! (from ! (hop ! (look ! 51 refl) (stop !))) (look ! 0 refl))) (from ! (stop !)) (init ! 29 refl (LL.lawful G.the-type G′.the-laws 𝓤 H A W .typed h _ h-is .0)) $
+        assigns ! (of-opd ! (load ! (from ! (hop ! (look ! 71 refl) (stop !))) (look ! 0 refl))) (from ! (stop !)) (init ! 49 refl (LL.lawful G.the-type G′.the-laws 𝓤 H A W .typed h _ h-is .0)) $
         -- the sequencer's record is looked into, copied out and shut
         move ! (6 ∷ []) $ fsplit ! $ fsplit3 ! $ drop ! $ drop ! $ move ! (7 ∷ []) $ split ! $ move ! (2 ∷ 0 ∷ []) $
         looks ! tt S.the-row (Is S.the-row) (shows 𝓤 H A S.the-row) (LL.vals S.the-type S′.the-laws) (LL.tells S.the-type S′.the-laws) (LL.copy S.the-type S′.the-copy 𝓤 H A W) seq c p (λ share vs. spelt ! S.the-row (Is S.the-row) (shows 𝓤 H A S.the-row) (LL.vals S.the-type S′.the-laws) (LL.tells S.the-type S′.the-laws) share seq vs c p $
         move ! (1 ∷ []) $ peeks ! S.the-row (Is S.the-row) (shows 𝓤 H A S.the-row) seq (sval seq ∷ []) (λ seq-is. move ! (1 ∷ 0 ∷ []) $
-        assigns ! (of-opd ! (load ! (from ! (hop ! (look ! 53 refl) (stop !))) (look-raw ! 0 refl))) (from ! (stop !)) (init ! 31 refl (LL.lawful S.the-type S′.the-laws 𝓤 H A W .typed seq _ seq-is .0)) $
+        assigns ! (of-opd ! (load ! (from ! (hop ! (look ! 73 refl) (stop !))) (look-raw ! 0 refl))) (from ! (stop !)) (init ! 51 refl (LL.lawful S.the-type S′.the-laws 𝓤 H A W .typed seq _ seq-is .0)) $
         shuts ! tt S.the-row share seq (sval seq ∷ []) c p $ move ! (1 ∷ []) $ drop ! $ move ! (3 ∷ 4 ∷ 5 ∷ 6 ∷ 7 ∷ []) $
-        assigns ! (addr ! (from ! (fld ! refl (hop ! (look-in ! 48 (sub ! 0 refl (whole !))) (stop !))))) (from ! (stop !)) (init ! 26 refl (tt, tt)) $
-        assigns ! (agg ! (and-then ! (load ! (from ! (stop !)) (look ! 26 refl)) (and-then ! (load ! (from ! (fld ! refl (stop !))) (look-in ! 48 (sub ! 1 refl (whole !)))) (no-more !)))) (from ! (stop !)) (init ! 24 refl (tt, (tt, (record { fits = p0-room .0 }, tt)))) $
-        assigns ! (addr ! (from ! (fld ! refl (hop ! (look-in ! 46 (sub ! 0 refl (whole !))) (stop !))))) (from ! (stop !)) (init ! 22 refl (tt, tt)) $
-        assigns ! (agg ! (and-then ! (load ! (from ! (stop !)) (look ! 22 refl)) (and-then ! (load ! (from ! (fld ! refl (stop !))) (look-in ! 46 (sub ! 1 refl (whole !)))) (no-more !)))) (from ! (stop !)) (init ! 20 refl (tt, (tt, (record { fits = p1-room .0 }, tt)))) $
-        assigns ! (addr ! (from ! (fld ! refl (hop ! (look-in ! 44 (sub ! 0 refl (whole !))) (stop !))))) (from ! (stop !)) (init ! 18 refl (tt, tt)) $
-        assigns ! (agg ! (and-then ! (load ! (from ! (stop !)) (look ! 18 refl)) (and-then ! (load ! (from ! (fld ! refl (stop !))) (look-in ! 44 (sub ! 1 refl (whole !)))) (no-more !)))) (from ! (stop !)) (init ! 16 refl (tt, (tt, (record { fits = p2-room .0 }, tt)))) $
-        assigns ! (addr ! (from ! (fld ! refl (hop ! (look-in ! 42 (sub ! 0 refl (whole !))) (stop !))))) (from ! (stop !)) (init ! 14 refl (tt, tt)) $
-        assigns ! (agg ! (and-then ! (load ! (from ! (stop !)) (look ! 14 refl)) (and-then ! (load ! (from ! (fld ! refl (stop !))) (look-in ! 42 (sub ! 1 refl (whole !)))) (no-more !)))) (from ! (stop !)) (init ! 12 refl (tt, (tt, (record { fits = p3-room .0 }, tt)))) $
-        assigns ! (addr ! (from ! (fld ! refl (hop ! (look-in ! 40 (sub ! 0 refl (whole !))) (stop !))))) (from ! (stop !)) (init ! 10 refl (tt, tt)) $
-        assigns ! (agg ! (and-then ! (load ! (from ! (stop !)) (look ! 10 refl)) (and-then ! (load ! (from ! (fld ! refl (stop !))) (look-in ! 40 (sub ! 1 refl (whole !)))) (no-more !)))) (from ! (stop !)) (init ! 8 refl (tt, (tt, (record { fits = picture-room .0 }, tt)))) $
+        assigns ! (addr ! (from ! (fld ! refl (hop ! (look-in ! 68 (sub ! 0 refl (whole !))) (stop !))))) (from ! (stop !)) (init ! 46 refl (tt, tt)) $
+        assigns ! (agg ! (and-then ! (load ! (from ! (stop !)) (look ! 46 refl)) (and-then ! (load ! (from ! (fld ! refl (stop !))) (look-in ! 68 (sub ! 1 refl (whole !)))) (no-more !)))) (from ! (stop !)) (init ! 44 refl (tt, (tt, (record { fits = p0-room .0 }, tt)))) $
+        assigns ! (addr ! (from ! (fld ! refl (hop ! (look-in ! 66 (sub ! 0 refl (whole !))) (stop !))))) (from ! (stop !)) (init ! 42 refl (tt, tt)) $
+        assigns ! (agg ! (and-then ! (load ! (from ! (stop !)) (look ! 42 refl)) (and-then ! (load ! (from ! (fld ! refl (stop !))) (look-in ! 66 (sub ! 1 refl (whole !)))) (no-more !)))) (from ! (stop !)) (init ! 40 refl (tt, (tt, (record { fits = p1-room .0 }, tt)))) $
+        assigns ! (addr ! (from ! (fld ! refl (hop ! (look-in ! 64 (sub ! 0 refl (whole !))) (stop !))))) (from ! (stop !)) (init ! 38 refl (tt, tt)) $
+        assigns ! (agg ! (and-then ! (load ! (from ! (stop !)) (look ! 38 refl)) (and-then ! (load ! (from ! (fld ! refl (stop !))) (look-in ! 64 (sub ! 1 refl (whole !)))) (no-more !)))) (from ! (stop !)) (init ! 36 refl (tt, (tt, (record { fits = p2-room .0 }, tt)))) $
+        assigns ! (addr ! (from ! (fld ! refl (hop ! (look-in ! 62 (sub ! 0 refl (whole !))) (stop !))))) (from ! (stop !)) (init ! 34 refl (tt, tt)) $
+        assigns ! (agg ! (and-then ! (load ! (from ! (stop !)) (look ! 34 refl)) (and-then ! (load ! (from ! (fld ! refl (stop !))) (look-in ! 62 (sub ! 1 refl (whole !)))) (no-more !)))) (from ! (stop !)) (init ! 32 refl (tt, (tt, (record { fits = p3-room .0 }, tt)))) $
+        assigns ! (addr ! (from ! (fld ! refl (hop ! (look-in ! 60 (sub ! 0 refl (whole !))) (stop !))))) (from ! (stop !)) (init ! 30 refl (tt, tt)) $
+        assigns ! (agg ! (and-then ! (load ! (from ! (stop !)) (look ! 30 refl)) (and-then ! (load ! (from ! (fld ! refl (stop !))) (look-in ! 60 (sub ! 1 refl (whole !)))) (no-more !)))) (from ! (stop !)) (init ! 28 refl (tt, (tt, (record { fits = picture-room .0 }, tt)))) $
         -- the call
         owned ! S.the-row (Is S.the-row) (LL.makes S.the-type S′.the-plain 𝓤 H A) seq _ seq-is $ move ! (0 ∷ 8 ∷ []) $ fjoin ! $ owned ! G.the-row (Is G.the-row) (LL.makes G.the-type G′.the-plain 𝓤 H A) h _ h-is $ fjoin ! $ move ! (7 ∷ 0 ∷ []) $
         use2 W (raw (Called 𝓤 H A at-mem run .pre to)) goes $
-        calls-at ! fm (Called 𝓤 H A at-mem run) known to (and-then ! (load ! (from ! (stop !)) (look ! 29 refl)) (and-then ! (load ! (from ! (stop !)) (look ! 27 refl)) (and-then ! (load ! (from ! (stop !)) (look ! 23 refl)) (and-then ! (load ! (from ! (stop !)) (look ! 19 refl)) (and-then ! (load ! (from ! (stop !)) (look ! 15 refl)) (and-then ! (load ! (from ! (stop !)) (look ! 11 refl)) (and-then ! (load ! (from ! (stop !)) (look ! 7 refl)) (and-then ! (load ! (from ! (stop !)) (look ! 37 refl)) (and-then ! (load ! (from ! (stop !)) (look ! 35 refl)) (and-then ! (load ! (from ! (stop !)) (look ! 33 refl)) (no-more !))))))))))) (λ w.
-        use1 W (later (some (λ (r : StatsAnswer). ((‵ (flft κ2 q2) ⊛ ‵ (flft κ3 q3) ⊛ ‵ (flft κ4 q4) ⊛ ‵ (flft κ5 q5) ⊛ ‵ (flft κ6 q6) ⊛ ‵ ftrue) ⊛ ‵ (R.the-row .own r (w ∷ []))) ⊛ raw (ensured 𝓤 H A by-value.ended (by-value.clauses 𝓤 H A at-mem run) κs handed tt r)))) (id⊢ 𝓤 _) $ await ! tt $ pick ! (λ r.
-        split ! $ move ! (1 ∷ []) $ use1 W (some (λ (zs : Unit {0} × (Unit {0} × (List ℕ × (List ℕ × (List ℕ × (List ℕ × (List ℕ × (Unit {0} × (Unit {0} × (Unit {0} × Unit {0})))))))))). ‵ (lasts by-value.ended κs handed zs) ⊛ raw (fact 𝓤 (StoredAs (r .answer) (held (withStats (r .stats) h) (memory (zs .1 .1 .0) (zs .1 .1 .1 .0) (zs .1 .1 .1 .1 .0) (zs .1 .1 .1 .1 .1 .0) (zs .1 .1 .1 .1 .1 .1 .0))) (cpuHosted h seq (memory (p0 .now) (p1 .now) (p2 .now) (p3 .now) (picture .now)) (changes 0 0 0 0) (cpuWrite address (isSet page) byte)))))) (id⊢ 𝓤 _) $ pick ! (λ zs.
-        split ! $ move ! (1 ∷ []) $ heard ! (StoredAs (r .answer) (held (withStats (r .stats) h) (memory (zs .1 .1 .0) (zs .1 .1 .1 .0) (zs .1 .1 .1 .1 .0) (zs .1 .1 .1 .1 .1 .0) (zs .1 .1 .1 .1 .1 .1 .0))) (cpuHosted h seq (memory (p0 .now) (p1 .now) (p2 .now) (p3 .now) (picture .now)) (changes 0 0 0 0) (cpuWrite address (isSet page) byte))) (λ e.
+        calls-at ! fm (Called 𝓤 H A at-mem run) known to (and-then ! (load ! (from ! (stop !)) (look ! 49 refl)) (and-then ! (load ! (from ! (stop !)) (look ! 47 refl)) (and-then ! (load ! (from ! (stop !)) (look ! 43 refl)) (and-then ! (load ! (from ! (stop !)) (look ! 39 refl)) (and-then ! (load ! (from ! (stop !)) (look ! 35 refl)) (and-then ! (load ! (from ! (stop !)) (look ! 31 refl)) (and-then ! (load ! (from ! (stop !)) (look ! 27 refl)) (and-then ! (load ! (from ! (stop !)) (look ! 57 refl)) (and-then ! (load ! (from ! (stop !)) (look ! 55 refl)) (and-then ! (load ! (from ! (stop !)) (look ! 53 refl)) (no-more !))))))))))) (λ w.
+        use1 W (later (some (λ (r : WriteAnswer). ((‵ (flft κ2 q2) ⊛ ‵ (flft κ3 q3) ⊛ ‵ (flft κ4 q4) ⊛ ‵ (flft κ5 q5) ⊛ ‵ (flft κ6 q6) ⊛ ‵ ftrue) ⊛ ‵ (R.the-row .own r (w ∷ []))) ⊛ raw (ensured 𝓤 H A by-value.ended (by-value.clauses 𝓤 H A at-mem run) κs handed tt r)))) (id⊢ 𝓤 _) $ await ! tt $ pick ! (λ r.
+        split ! $ move ! (1 ∷ []) $ use1 W (some (λ (zs : Unit {0} × (Unit {0} × (List ℕ × (List ℕ × (List ℕ × (List ℕ × (List ℕ × (Unit {0} × (Unit {0} × (Unit {0} × Unit {0})))))))))). ‵ (lasts by-value.ended κs handed zs) ⊛ raw (fact 𝓤 ((Ends r (withCount (r .counter) h) (zs .1 .1 .0) (zs .1 .1 .1 .0) (zs .1 .1 .1 .1 .0) (zs .1 .1 .1 .1 .1 .0) (zs .1 .1 .1 .1 .1 .1 .0)) × (r .counter ≡ counterOf (r .answer .number) (writeCounter (writeMode (controllerOf h .registers)))))))) (id⊢ 𝓤 _) $ pick ! (λ zs.
+        split ! $ move ! (1 ∷ []) $ heard ! ((Ends r (withCount (r .counter) h) (zs .1 .1 .0) (zs .1 .1 .1 .0) (zs .1 .1 .1 .1 .0) (zs .1 .1 .1 .1 .1 .0) (zs .1 .1 .1 .1 .1 .1 .0)) × (r .counter ≡ counterOf (r .answer .number) (writeCounter (writeMode (controllerOf h .registers))))) (λ e.
         fsplit ! $ drop ! $ fsplit ! $ drop ! $
         fsplit ! $ fsplit ! $ move ! (1 ∷ []) $ feqL ! (λ m0. move ! (1 ∷ []) $
         fsplit ! $ fsplit ! $ move ! (1 ∷ []) $ feqL ! (λ m1. move ! (1 ∷ []) $
@@ -183,33 +195,112 @@ module _ {M : Type 1} (𝓤 : URA M) (H : Heap 𝓤) (A : Atoms 𝓤) (W : Given
         drop ! $ move ! (5 ∷ []) $ split ! $ move ! (1 ∷ []) $
         -- [what the answer owns; the tokens; the last lists; what the records left; the last local; …]
         peeks ! R.the-row (Is R.the-row) (shows 𝓤 H A R.the-row) r (w ∷ []) (λ is.
-        let we : w ≡ stats-rval r = head-is w (stats-rval r) (LL.tells R.the-type R′.the-laws r (w ∷ []) is) in
-        rewrite ! 0 (λ (v : Val). ‵ (R.the-row .own r (v ∷ []))) we refl $ peeks ! R.the-row (Is R.the-row) (shows 𝓤 H A R.the-row) r (stats-rval r ∷ []) (λ is′.
-        land ! (from ! (stop !)) (init ! 37 refl (LL.lawful R.the-type R′.the-laws 𝓤 H A W .typed r _ is .0)) $
-        rewrite ! 37 (λ (v : Val). ‵ (fat fullShare R′.mir l11 0 v)) we refl $
-        assigns ! (of-opd ! (load ! (from ! (fld ! refl (stop !))) (look-in ! 37 (sub ! 1 refl (whole !))))) (from ! (hop ! (look ! 57 refl) (fld ! refl (stop !)))) (store-in ! 7 (sub ! 0 refl (whole !)) (LL.lawful T.the-type T′.the-laws 𝓤 H A W .typed (r .stats) _ (stats-is r is′) .0)) $
-        assigns ! (of-opd ! (load ! (from ! (fld ! refl (stop !))) (look-in ! 37 (sub ! 0 refl (whole !))))) (from ! (stop !)) (init ! 59 refl (LL.lawful N.the-type N′.the-laws 𝓤 H A W .typed (r .answer) _ (stats-an-is r is′) .0)) $
-        -- the borrow is closed at the new record
-        move ! (8 ∷ []) $ drop ! $ owned ! G.the-row (Is G.the-row) (LL.makes G.the-type G′.the-plain 𝓤 H A) (withStats (r .stats) h) _ (stats-gc-is h h-is r is′) $
-        move ! (8 ∷ []) $ use1 W (‵ (cellAt fullShare (G.the-row .mir) (gval (withStats (r .stats) h) ∷ []) b o)) (W .laws .at-raw fullShare G′.mir b o (gval (withStats (r .stats) h))) $
-        move ! (0 ∷ 1 ∷ 9 ∷ 10 ∷ 11 ∷ []) $ closes ! tt G.the-row (withStats (r .stats) h) (gval (withStats (r .stats) h) ∷ []) b o $
-        returns ! (look ! 57 refl) $
-        forget ! 11 refl $ forget ! 13 refl $ forget ! 15 refl $ forget ! 17 refl $ forget ! 19 refl $ forget ! 21 refl $ forget ! 23 refl $ forget ! 25 refl $ forget ! 27 refl $ forget ! 29 refl $ forget ! 31 refl $ forget ! 33 refl $ forget ! 35 refl $ forget ! 37 refl $ forget ! 39 refl $ forget ! 41 refl $ forget ! 43 refl $ forget ! 45 refl $ forget ! 47 refl $ forget ! 49 refl $ forget ! 51 refl $ forget ! 53 refl $ forget ! 55 refl $ forget ! 57 refl $
-        move ! (57 ∷ 58 ∷ []) $ free1 ! $ move ! (55 ∷ 56 ∷ []) $ free1 ! $ move ! (53 ∷ 54 ∷ []) $ free1 ! $ move ! (51 ∷ 52 ∷ []) $ free1 ! $ move ! (49 ∷ 50 ∷ []) $ free1 ! $ move ! (47 ∷ 48 ∷ []) $ free1 ! $ move ! (45 ∷ 46 ∷ []) $ free1 ! $ move ! (43 ∷ 44 ∷ []) $ free1 ! $ move ! (41 ∷ 42 ∷ []) $ free1 ! $ move ! (39 ∷ 40 ∷ []) $ free1 ! $ move ! (37 ∷ 38 ∷ []) $ free1 ! $ move ! (35 ∷ 36 ∷ []) $ free1 ! $ move ! (33 ∷ 34 ∷ []) $ free1 ! $ move ! (31 ∷ 32 ∷ []) $ free1 ! $ move ! (29 ∷ 30 ∷ []) $ free1 ! $ move ! (27 ∷ 28 ∷ []) $ free1 ! $ move ! (25 ∷ 26 ∷ []) $ free1 ! $ move ! (23 ∷ 24 ∷ []) $ free1 ! $ move ! (21 ∷ 22 ∷ []) $ free1 ! $ move ! (19 ∷ 20 ∷ []) $ free1 ! $ move ! (17 ∷ 18 ∷ []) $ free1 ! $ move ! (15 ∷ 16 ∷ []) $ free1 ! $ move ! (13 ∷ 14 ∷ []) $ free1 ! $ move ! (11 ∷ 12 ∷ []) $ free1 ! $ free0 ! $
-        keep ! (0 ∷ 1 ∷ 2 ∷ 10 ∷ 4 ∷ 9 ∷ 8 ∷ 7 ∷ 6 ∷ 5 ∷ []) $ by ! (exits r (zs .1 .1 .0) (zs .1 .1 .1 .0) (zs .1 .1 .1 .1 .0) (zs .1 .1 .1 .1 .1 .0) (zs .1 .1 .1 .1 .1 .1 .0) is′ e m0 m1 m2 m3 m4))))))))))))))))))))))))))))))))))))))))
+        let we : w ≡ write-val r = head-is w (write-val r) (LL.tells R.the-type R′.the-laws r (w ∷ []) is) in
+        rewrite ! 0 (λ (v : Val). ‵ (R.the-row .own r (v ∷ []))) we refl $ peeks ! R.the-row (Is R.the-row) (shows 𝓤 H A R.the-row) r (write-val r ∷ []) (λ is′.
+        land ! (from ! (stop !)) (init ! 57 refl (LL.lawful R.the-type R′.the-laws 𝓤 H A W .typed r _ is .0)) $
+        rewrite ! 57 (λ (v : Val). ‵ (fat fullShare R′.mir l11 0 v)) we refl $
+        let base = h-is in
+        let E : Env 𝓤 H = envOf 𝓤 H (code.function .locals) (l0 ∷ l1 ∷ l2 ∷ l3 ∷ l4 ∷ l5 ∷ l6 ∷ l7 ∷ l8 ∷ l9 ∷ l10 ∷ l11 ∷ l12 ∷ l13 ∷ l14 ∷ l15 ∷ l16 ∷ l17 ∷ l18 ∷ l19 ∷ l20 ∷ l21 ∷ l22 ∷ l23 ∷ l24 ∷ l25 ∷ l26 ∷ l27 ∷ l28 ∷ l29 ∷ l30 ∷ l31 ∷ l32 ∷ l33 ∷ []) in
+        let are = LL.owed T.the-type T′.the-laws (h .stats) _ (stats-is h h-is) in
+        first ! $ switches ! (load ! (from ! (fld ! refl (stop !))) (look-in ! 57 (sub ! 1 refl (whole !))))
+        -- mode_0_writes
+        (
+          (λ is-0. assigns ! (of-opd ! (load ! (from ! (hop ! (look ! 77 refl) (fld ! refl (fld ! refl (stop !))))) (look-in ! 7 (sub ! 0 refl (sub ! 0 refl (whole !)))))) (from ! (stop !)) (init ! 29 refl (tt, record { fits = (are .0 .1) })) $
+              sums ! fm at-mem run adds (h .stats .«mode_0_writes») (are .0 .1) (and-then ! (load ! (from ! (stop !)) (look ! 30 refl)) (and-then ! (lit ! tt) (no-more !))) $
+              land ! (from ! (stop !)) (init ! 31 refl (tt, record { fits = one-more-fits (h .stats .«mode_0_writes») })) $
+              assigns-last ! (of-opd ! (load ! (from ! (stop !)) (look ! 31 refl))) (from ! (hop ! (look ! 77 refl) (fld ! refl (fld ! refl (stop !))))) (store-in ! 7 (sub ! 0 refl (sub ! 0 refl (whole !))) (tt, record { fits = one-more-fits (h .stats .«mode_0_writes») })) $ exec ! C Λ E text.t-15 (atRet E Post) $
+              assigns ! (of-opd ! (load ! (from ! (fld ! refl (stop !))) (look-in ! 57 (sub ! 0 refl (whole !))))) (from ! (stop !)) (init ! 79 refl (LL.lawful N.the-type N′.the-laws 𝓤 H A W .typed (r .answer) _ (write-told-is r is′) .0)) $
+              move ! (8 ∷ []) $ drop ! $ owned ! G.the-row (Is G.the-row) (LL.makes G.the-type G′.the-plain 𝓤 H A) (withCount 0 h) _ (counted-is h base 0) $
+              move ! (8 ∷ []) $ use1 W (‵ (cellAt fullShare (G.the-row .mir) (gval (withCount 0 h) ∷ []) b o)) (W .laws .at-raw fullShare G′.mir b o (gval (withCount 0 h))) $
+              move ! (0 ∷ 1 ∷ 9 ∷ 10 ∷ 11 ∷ []) $ closes ! tt G.the-row (withCount 0 h) (gval (withCount 0 h) ∷ []) b o $
+              returns ! (look ! 77 refl) $
+              forget ! 27 refl $ forget ! 29 refl $ forget ! 31 refl $ forget ! 33 refl $ forget ! 35 refl $ forget ! 37 refl $ forget ! 39 refl $ forget ! 41 refl $ forget ! 43 refl $ forget ! 45 refl $ forget ! 47 refl $ forget ! 49 refl $ forget ! 51 refl $ forget ! 53 refl $ forget ! 55 refl $ forget ! 57 refl $ forget ! 59 refl $ forget ! 61 refl $ forget ! 63 refl $ forget ! 65 refl $ forget ! 67 refl $ forget ! 69 refl $ forget ! 71 refl $ forget ! 73 refl $ forget ! 75 refl $ forget ! 77 refl $
+              move ! (77 ∷ 78 ∷ []) $ free1 ! $ move ! (75 ∷ 76 ∷ []) $ free1 ! $ move ! (73 ∷ 74 ∷ []) $ free1 ! $ move ! (71 ∷ 72 ∷ []) $ free1 ! $ move ! (69 ∷ 70 ∷ []) $ free1 ! $ move ! (67 ∷ 68 ∷ []) $ free1 ! $ move ! (65 ∷ 66 ∷ []) $ free1 ! $ move ! (63 ∷ 64 ∷ []) $ free1 ! $ move ! (61 ∷ 62 ∷ []) $ free1 ! $ move ! (59 ∷ 60 ∷ []) $ free1 ! $ move ! (57 ∷ 58 ∷ []) $ free1 ! $ move ! (55 ∷ 56 ∷ []) $ free1 ! $ move ! (53 ∷ 54 ∷ []) $ free1 ! $ move ! (51 ∷ 52 ∷ []) $ free1 ! $ move ! (49 ∷ 50 ∷ []) $ free1 ! $ move ! (47 ∷ 48 ∷ []) $ free1 ! $ move ! (45 ∷ 46 ∷ []) $ free1 ! $ move ! (43 ∷ 44 ∷ []) $ free1 ! $ move ! (41 ∷ 42 ∷ []) $ free1 ! $ move ! (39 ∷ 40 ∷ []) $ free1 ! $ move ! (37 ∷ 38 ∷ []) $ free1 ! $ move ! (35 ∷ 36 ∷ []) $ free1 ! $ move ! (33 ∷ 34 ∷ []) $ free1 ! $ move ! (31 ∷ 32 ∷ []) $ free1 ! $ move ! (29 ∷ 30 ∷ []) $ free1 ! $ move ! (27 ∷ 28 ∷ []) $ free1 ! $ move ! (25 ∷ 26 ∷ []) $ free1 ! $ move ! (23 ∷ 24 ∷ []) $ free1 ! $ move ! (21 ∷ 22 ∷ []) $ free1 ! $ move ! (19 ∷ 20 ∷ []) $ free1 ! $ move ! (17 ∷ 18 ∷ []) $ free1 ! $ move ! (15 ∷ 16 ∷ []) $ free1 ! $ move ! (13 ∷ 14 ∷ []) $ free1 ! $ move ! (11 ∷ 12 ∷ []) $ free1 ! $ free0 ! $
+              keep ! (0 ∷ 1 ∷ 2 ∷ 10 ∷ 4 ∷ 9 ∷ 8 ∷ 7 ∷ 6 ∷ 5 ∷ []) $ by ! (exits r (withCount 0 h) (zs .1 .1 .0) (zs .1 .1 .1 .0) (zs .1 .1 .1 .1 .0) (zs .1 .1 .1 .1 .1 .0) (zs .1 .1 .1 .1 .1 .1 .0) is′ (subst (λ (n : ℕ). Ends r (withCount n h) (zs .1 .1 .0) (zs .1 .1 .1 .0) (zs .1 .1 .1 .1 .0) (zs .1 .1 .1 .1 .1 .0) (zs .1 .1 .1 .1 .1 .1 .0)) is-0 (e .0)) m0 m1 m2 m3 m4)),
+          -- mode_1_writes
+          (
+            (λ is-1. assigns ! (of-opd ! (load ! (from ! (hop ! (look ! 77 refl) (fld ! refl (fld ! refl (stop !))))) (look-in ! 7 (sub ! 1 refl (sub ! 0 refl (whole !)))))) (from ! (stop !)) (init ! 25 refl (tt, record { fits = (are .1 .0 .1) })) $
+                sums ! fm at-mem run adds (h .stats .«mode_1_writes») (are .1 .0 .1) (and-then ! (load ! (from ! (stop !)) (look ! 26 refl)) (and-then ! (lit ! tt) (no-more !))) $
+                land ! (from ! (stop !)) (init ! 27 refl (tt, record { fits = one-more-fits (h .stats .«mode_1_writes») })) $
+                assigns-last ! (of-opd ! (load ! (from ! (stop !)) (look ! 27 refl))) (from ! (hop ! (look ! 77 refl) (fld ! refl (fld ! refl (stop !))))) (store-in ! 7 (sub ! 1 refl (sub ! 0 refl (whole !))) (tt, record { fits = one-more-fits (h .stats .«mode_1_writes») })) $ exec ! C Λ E text.t-15 (atRet E Post) $
+                assigns ! (of-opd ! (load ! (from ! (fld ! refl (stop !))) (look-in ! 57 (sub ! 0 refl (whole !))))) (from ! (stop !)) (init ! 79 refl (LL.lawful N.the-type N′.the-laws 𝓤 H A W .typed (r .answer) _ (write-told-is r is′) .0)) $
+                move ! (8 ∷ []) $ drop ! $ owned ! G.the-row (Is G.the-row) (LL.makes G.the-type G′.the-plain 𝓤 H A) (withCount 1 h) _ (counted-is h base 1) $
+                move ! (8 ∷ []) $ use1 W (‵ (cellAt fullShare (G.the-row .mir) (gval (withCount 1 h) ∷ []) b o)) (W .laws .at-raw fullShare G′.mir b o (gval (withCount 1 h))) $
+                move ! (0 ∷ 1 ∷ 9 ∷ 10 ∷ 11 ∷ []) $ closes ! tt G.the-row (withCount 1 h) (gval (withCount 1 h) ∷ []) b o $
+                returns ! (look ! 77 refl) $
+                forget ! 23 refl $ forget ! 25 refl $ forget ! 31 refl $ forget ! 33 refl $ forget ! 35 refl $ forget ! 37 refl $ forget ! 39 refl $ forget ! 41 refl $ forget ! 43 refl $ forget ! 45 refl $ forget ! 47 refl $ forget ! 49 refl $ forget ! 51 refl $ forget ! 53 refl $ forget ! 55 refl $ forget ! 57 refl $ forget ! 59 refl $ forget ! 61 refl $ forget ! 63 refl $ forget ! 65 refl $ forget ! 67 refl $ forget ! 69 refl $ forget ! 71 refl $ forget ! 73 refl $ forget ! 75 refl $ forget ! 77 refl $
+                move ! (77 ∷ 78 ∷ []) $ free1 ! $ move ! (75 ∷ 76 ∷ []) $ free1 ! $ move ! (73 ∷ 74 ∷ []) $ free1 ! $ move ! (71 ∷ 72 ∷ []) $ free1 ! $ move ! (69 ∷ 70 ∷ []) $ free1 ! $ move ! (67 ∷ 68 ∷ []) $ free1 ! $ move ! (65 ∷ 66 ∷ []) $ free1 ! $ move ! (63 ∷ 64 ∷ []) $ free1 ! $ move ! (61 ∷ 62 ∷ []) $ free1 ! $ move ! (59 ∷ 60 ∷ []) $ free1 ! $ move ! (57 ∷ 58 ∷ []) $ free1 ! $ move ! (55 ∷ 56 ∷ []) $ free1 ! $ move ! (53 ∷ 54 ∷ []) $ free1 ! $ move ! (51 ∷ 52 ∷ []) $ free1 ! $ move ! (49 ∷ 50 ∷ []) $ free1 ! $ move ! (47 ∷ 48 ∷ []) $ free1 ! $ move ! (45 ∷ 46 ∷ []) $ free1 ! $ move ! (43 ∷ 44 ∷ []) $ free1 ! $ move ! (41 ∷ 42 ∷ []) $ free1 ! $ move ! (39 ∷ 40 ∷ []) $ free1 ! $ move ! (37 ∷ 38 ∷ []) $ free1 ! $ move ! (35 ∷ 36 ∷ []) $ free1 ! $ move ! (33 ∷ 34 ∷ []) $ free1 ! $ move ! (31 ∷ 32 ∷ []) $ free1 ! $ move ! (29 ∷ 30 ∷ []) $ free1 ! $ move ! (27 ∷ 28 ∷ []) $ free1 ! $ move ! (25 ∷ 26 ∷ []) $ free1 ! $ move ! (23 ∷ 24 ∷ []) $ free1 ! $ move ! (21 ∷ 22 ∷ []) $ free1 ! $ move ! (19 ∷ 20 ∷ []) $ free1 ! $ move ! (17 ∷ 18 ∷ []) $ free1 ! $ move ! (15 ∷ 16 ∷ []) $ free1 ! $ move ! (13 ∷ 14 ∷ []) $ free1 ! $ move ! (11 ∷ 12 ∷ []) $ free1 ! $ free0 ! $
+                keep ! (0 ∷ 1 ∷ 2 ∷ 10 ∷ 4 ∷ 9 ∷ 8 ∷ 7 ∷ 6 ∷ 5 ∷ []) $ by ! (exits r (withCount 1 h) (zs .1 .1 .0) (zs .1 .1 .1 .0) (zs .1 .1 .1 .1 .0) (zs .1 .1 .1 .1 .1 .0) (zs .1 .1 .1 .1 .1 .1 .0) is′ (subst (λ (n : ℕ). Ends r (withCount n h) (zs .1 .1 .0) (zs .1 .1 .1 .0) (zs .1 .1 .1 .1 .0) (zs .1 .1 .1 .1 .1 .0) (zs .1 .1 .1 .1 .1 .1 .0)) is-1 (e .0)) m0 m1 m2 m3 m4)),
+            -- mode_2_writes
+            (
+              (λ is-2. assigns ! (of-opd ! (load ! (from ! (hop ! (look ! 77 refl) (fld ! refl (fld ! refl (stop !))))) (look-in ! 7 (sub ! 2 refl (sub ! 0 refl (whole !)))))) (from ! (stop !)) (init ! 21 refl (tt, record { fits = (are .1 .1 .0 .1) })) $
+                  sums ! fm at-mem run adds (h .stats .«mode_2_writes») (are .1 .1 .0 .1) (and-then ! (load ! (from ! (stop !)) (look ! 22 refl)) (and-then ! (lit ! tt) (no-more !))) $
+                  land ! (from ! (stop !)) (init ! 23 refl (tt, record { fits = one-more-fits (h .stats .«mode_2_writes») })) $
+                  assigns-last ! (of-opd ! (load ! (from ! (stop !)) (look ! 23 refl))) (from ! (hop ! (look ! 77 refl) (fld ! refl (fld ! refl (stop !))))) (store-in ! 7 (sub ! 2 refl (sub ! 0 refl (whole !))) (tt, record { fits = one-more-fits (h .stats .«mode_2_writes») })) $ exec ! C Λ E text.t-15 (atRet E Post) $
+                  assigns ! (of-opd ! (load ! (from ! (fld ! refl (stop !))) (look-in ! 57 (sub ! 0 refl (whole !))))) (from ! (stop !)) (init ! 79 refl (LL.lawful N.the-type N′.the-laws 𝓤 H A W .typed (r .answer) _ (write-told-is r is′) .0)) $
+                  move ! (8 ∷ []) $ drop ! $ owned ! G.the-row (Is G.the-row) (LL.makes G.the-type G′.the-plain 𝓤 H A) (withCount 2 h) _ (counted-is h base 2) $
+                  move ! (8 ∷ []) $ use1 W (‵ (cellAt fullShare (G.the-row .mir) (gval (withCount 2 h) ∷ []) b o)) (W .laws .at-raw fullShare G′.mir b o (gval (withCount 2 h))) $
+                  move ! (0 ∷ 1 ∷ 9 ∷ 10 ∷ 11 ∷ []) $ closes ! tt G.the-row (withCount 2 h) (gval (withCount 2 h) ∷ []) b o $
+                  returns ! (look ! 77 refl) $
+                  forget ! 19 refl $ forget ! 21 refl $ forget ! 31 refl $ forget ! 33 refl $ forget ! 35 refl $ forget ! 37 refl $ forget ! 39 refl $ forget ! 41 refl $ forget ! 43 refl $ forget ! 45 refl $ forget ! 47 refl $ forget ! 49 refl $ forget ! 51 refl $ forget ! 53 refl $ forget ! 55 refl $ forget ! 57 refl $ forget ! 59 refl $ forget ! 61 refl $ forget ! 63 refl $ forget ! 65 refl $ forget ! 67 refl $ forget ! 69 refl $ forget ! 71 refl $ forget ! 73 refl $ forget ! 75 refl $ forget ! 77 refl $
+                  move ! (77 ∷ 78 ∷ []) $ free1 ! $ move ! (75 ∷ 76 ∷ []) $ free1 ! $ move ! (73 ∷ 74 ∷ []) $ free1 ! $ move ! (71 ∷ 72 ∷ []) $ free1 ! $ move ! (69 ∷ 70 ∷ []) $ free1 ! $ move ! (67 ∷ 68 ∷ []) $ free1 ! $ move ! (65 ∷ 66 ∷ []) $ free1 ! $ move ! (63 ∷ 64 ∷ []) $ free1 ! $ move ! (61 ∷ 62 ∷ []) $ free1 ! $ move ! (59 ∷ 60 ∷ []) $ free1 ! $ move ! (57 ∷ 58 ∷ []) $ free1 ! $ move ! (55 ∷ 56 ∷ []) $ free1 ! $ move ! (53 ∷ 54 ∷ []) $ free1 ! $ move ! (51 ∷ 52 ∷ []) $ free1 ! $ move ! (49 ∷ 50 ∷ []) $ free1 ! $ move ! (47 ∷ 48 ∷ []) $ free1 ! $ move ! (45 ∷ 46 ∷ []) $ free1 ! $ move ! (43 ∷ 44 ∷ []) $ free1 ! $ move ! (41 ∷ 42 ∷ []) $ free1 ! $ move ! (39 ∷ 40 ∷ []) $ free1 ! $ move ! (37 ∷ 38 ∷ []) $ free1 ! $ move ! (35 ∷ 36 ∷ []) $ free1 ! $ move ! (33 ∷ 34 ∷ []) $ free1 ! $ move ! (31 ∷ 32 ∷ []) $ free1 ! $ move ! (29 ∷ 30 ∷ []) $ free1 ! $ move ! (27 ∷ 28 ∷ []) $ free1 ! $ move ! (25 ∷ 26 ∷ []) $ free1 ! $ move ! (23 ∷ 24 ∷ []) $ free1 ! $ move ! (21 ∷ 22 ∷ []) $ free1 ! $ move ! (19 ∷ 20 ∷ []) $ free1 ! $ move ! (17 ∷ 18 ∷ []) $ free1 ! $ move ! (15 ∷ 16 ∷ []) $ free1 ! $ move ! (13 ∷ 14 ∷ []) $ free1 ! $ move ! (11 ∷ 12 ∷ []) $ free1 ! $ free0 ! $
+                  keep ! (0 ∷ 1 ∷ 2 ∷ 10 ∷ 4 ∷ 9 ∷ 8 ∷ 7 ∷ 6 ∷ 5 ∷ []) $ by ! (exits r (withCount 2 h) (zs .1 .1 .0) (zs .1 .1 .1 .0) (zs .1 .1 .1 .1 .0) (zs .1 .1 .1 .1 .1 .0) (zs .1 .1 .1 .1 .1 .1 .0) is′ (subst (λ (n : ℕ). Ends r (withCount n h) (zs .1 .1 .0) (zs .1 .1 .1 .0) (zs .1 .1 .1 .1 .0) (zs .1 .1 .1 .1 .1 .0) (zs .1 .1 .1 .1 .1 .1 .0)) is-2 (e .0)) m0 m1 m2 m3 m4)),
+              -- mode_3_writes
+              (
+                (λ is-3. assigns ! (of-opd ! (load ! (from ! (hop ! (look ! 77 refl) (fld ! refl (fld ! refl (stop !))))) (look-in ! 7 (sub ! 3 refl (sub ! 0 refl (whole !)))))) (from ! (stop !)) (init ! 17 refl (tt, record { fits = (are .1 .1 .1 .0 .1) })) $
+                    sums ! fm at-mem run adds (h .stats .«mode_3_writes») (are .1 .1 .1 .0 .1) (and-then ! (load ! (from ! (stop !)) (look ! 18 refl)) (and-then ! (lit ! tt) (no-more !))) $
+                    land ! (from ! (stop !)) (init ! 19 refl (tt, record { fits = one-more-fits (h .stats .«mode_3_writes») })) $
+                    assigns-last ! (of-opd ! (load ! (from ! (stop !)) (look ! 19 refl))) (from ! (hop ! (look ! 77 refl) (fld ! refl (fld ! refl (stop !))))) (store-in ! 7 (sub ! 3 refl (sub ! 0 refl (whole !))) (tt, record { fits = one-more-fits (h .stats .«mode_3_writes») })) $ exec ! C Λ E text.t-15 (atRet E Post) $
+                    assigns ! (of-opd ! (load ! (from ! (fld ! refl (stop !))) (look-in ! 57 (sub ! 0 refl (whole !))))) (from ! (stop !)) (init ! 79 refl (LL.lawful N.the-type N′.the-laws 𝓤 H A W .typed (r .answer) _ (write-told-is r is′) .0)) $
+                    move ! (8 ∷ []) $ drop ! $ owned ! G.the-row (Is G.the-row) (LL.makes G.the-type G′.the-plain 𝓤 H A) (withCount 3 h) _ (counted-is h base 3) $
+                    move ! (8 ∷ []) $ use1 W (‵ (cellAt fullShare (G.the-row .mir) (gval (withCount 3 h) ∷ []) b o)) (W .laws .at-raw fullShare G′.mir b o (gval (withCount 3 h))) $
+                    move ! (0 ∷ 1 ∷ 9 ∷ 10 ∷ 11 ∷ []) $ closes ! tt G.the-row (withCount 3 h) (gval (withCount 3 h) ∷ []) b o $
+                    returns ! (look ! 77 refl) $
+                    forget ! 15 refl $ forget ! 17 refl $ forget ! 31 refl $ forget ! 33 refl $ forget ! 35 refl $ forget ! 37 refl $ forget ! 39 refl $ forget ! 41 refl $ forget ! 43 refl $ forget ! 45 refl $ forget ! 47 refl $ forget ! 49 refl $ forget ! 51 refl $ forget ! 53 refl $ forget ! 55 refl $ forget ! 57 refl $ forget ! 59 refl $ forget ! 61 refl $ forget ! 63 refl $ forget ! 65 refl $ forget ! 67 refl $ forget ! 69 refl $ forget ! 71 refl $ forget ! 73 refl $ forget ! 75 refl $ forget ! 77 refl $
+                    move ! (77 ∷ 78 ∷ []) $ free1 ! $ move ! (75 ∷ 76 ∷ []) $ free1 ! $ move ! (73 ∷ 74 ∷ []) $ free1 ! $ move ! (71 ∷ 72 ∷ []) $ free1 ! $ move ! (69 ∷ 70 ∷ []) $ free1 ! $ move ! (67 ∷ 68 ∷ []) $ free1 ! $ move ! (65 ∷ 66 ∷ []) $ free1 ! $ move ! (63 ∷ 64 ∷ []) $ free1 ! $ move ! (61 ∷ 62 ∷ []) $ free1 ! $ move ! (59 ∷ 60 ∷ []) $ free1 ! $ move ! (57 ∷ 58 ∷ []) $ free1 ! $ move ! (55 ∷ 56 ∷ []) $ free1 ! $ move ! (53 ∷ 54 ∷ []) $ free1 ! $ move ! (51 ∷ 52 ∷ []) $ free1 ! $ move ! (49 ∷ 50 ∷ []) $ free1 ! $ move ! (47 ∷ 48 ∷ []) $ free1 ! $ move ! (45 ∷ 46 ∷ []) $ free1 ! $ move ! (43 ∷ 44 ∷ []) $ free1 ! $ move ! (41 ∷ 42 ∷ []) $ free1 ! $ move ! (39 ∷ 40 ∷ []) $ free1 ! $ move ! (37 ∷ 38 ∷ []) $ free1 ! $ move ! (35 ∷ 36 ∷ []) $ free1 ! $ move ! (33 ∷ 34 ∷ []) $ free1 ! $ move ! (31 ∷ 32 ∷ []) $ free1 ! $ move ! (29 ∷ 30 ∷ []) $ free1 ! $ move ! (27 ∷ 28 ∷ []) $ free1 ! $ move ! (25 ∷ 26 ∷ []) $ free1 ! $ move ! (23 ∷ 24 ∷ []) $ free1 ! $ move ! (21 ∷ 22 ∷ []) $ free1 ! $ move ! (19 ∷ 20 ∷ []) $ free1 ! $ move ! (17 ∷ 18 ∷ []) $ free1 ! $ move ! (15 ∷ 16 ∷ []) $ free1 ! $ move ! (13 ∷ 14 ∷ []) $ free1 ! $ move ! (11 ∷ 12 ∷ []) $ free1 ! $ free0 ! $
+                    keep ! (0 ∷ 1 ∷ 2 ∷ 10 ∷ 4 ∷ 9 ∷ 8 ∷ 7 ∷ 6 ∷ 5 ∷ []) $ by ! (exits r (withCount 3 h) (zs .1 .1 .0) (zs .1 .1 .1 .0) (zs .1 .1 .1 .1 .0) (zs .1 .1 .1 .1 .1 .0) (zs .1 .1 .1 .1 .1 .1 .0) is′ (subst (λ (n : ℕ). Ends r (withCount n h) (zs .1 .1 .0) (zs .1 .1 .1 .0) (zs .1 .1 .1 .1 .0) (zs .1 .1 .1 .1 .1 .0) (zs .1 .1 .1 .1 .1 .1 .0)) is-3 (e .0)) m0 m1 m2 m3 m4)),
+                -- refused_accesses
+                (
+                  (λ is-6. assigns ! (of-opd ! (load ! (from ! (hop ! (look ! 77 refl) (fld ! refl (fld ! refl (stop !))))) (look-in ! 7 (sub ! 6 refl (sub ! 0 refl (whole !)))))) (from ! (stop !)) (init ! 13 refl (tt, record { fits = (are .1 .1 .1 .1 .1 .1 .0 .1) })) $
+                      sums ! fm at-mem run adds (h .stats .«refused_accesses») (are .1 .1 .1 .1 .1 .1 .0 .1) (and-then ! (load ! (from ! (stop !)) (look ! 14 refl)) (and-then ! (lit ! tt) (no-more !))) $
+                      land ! (from ! (stop !)) (init ! 15 refl (tt, record { fits = one-more-fits (h .stats .«refused_accesses») })) $
+                      assigns-last ! (of-opd ! (load ! (from ! (stop !)) (look ! 15 refl))) (from ! (hop ! (look ! 77 refl) (fld ! refl (fld ! refl (stop !))))) (store-in ! 7 (sub ! 6 refl (sub ! 0 refl (whole !))) (tt, record { fits = one-more-fits (h .stats .«refused_accesses») })) $ exec ! C Λ E text.t-15 (atRet E Post) $
+                      assigns ! (of-opd ! (load ! (from ! (fld ! refl (stop !))) (look-in ! 57 (sub ! 0 refl (whole !))))) (from ! (stop !)) (init ! 79 refl (LL.lawful N.the-type N′.the-laws 𝓤 H A W .typed (r .answer) _ (write-told-is r is′) .0)) $
+                      move ! (8 ∷ []) $ drop ! $ owned ! G.the-row (Is G.the-row) (LL.makes G.the-type G′.the-plain 𝓤 H A) (withCount 6 h) _ (counted-is h base 6) $
+                      move ! (8 ∷ []) $ use1 W (‵ (cellAt fullShare (G.the-row .mir) (gval (withCount 6 h) ∷ []) b o)) (W .laws .at-raw fullShare G′.mir b o (gval (withCount 6 h))) $
+                      move ! (0 ∷ 1 ∷ 9 ∷ 10 ∷ 11 ∷ []) $ closes ! tt G.the-row (withCount 6 h) (gval (withCount 6 h) ∷ []) b o $
+                      returns ! (look ! 77 refl) $
+                      forget ! 11 refl $ forget ! 13 refl $ forget ! 31 refl $ forget ! 33 refl $ forget ! 35 refl $ forget ! 37 refl $ forget ! 39 refl $ forget ! 41 refl $ forget ! 43 refl $ forget ! 45 refl $ forget ! 47 refl $ forget ! 49 refl $ forget ! 51 refl $ forget ! 53 refl $ forget ! 55 refl $ forget ! 57 refl $ forget ! 59 refl $ forget ! 61 refl $ forget ! 63 refl $ forget ! 65 refl $ forget ! 67 refl $ forget ! 69 refl $ forget ! 71 refl $ forget ! 73 refl $ forget ! 75 refl $ forget ! 77 refl $
+                      move ! (77 ∷ 78 ∷ []) $ free1 ! $ move ! (75 ∷ 76 ∷ []) $ free1 ! $ move ! (73 ∷ 74 ∷ []) $ free1 ! $ move ! (71 ∷ 72 ∷ []) $ free1 ! $ move ! (69 ∷ 70 ∷ []) $ free1 ! $ move ! (67 ∷ 68 ∷ []) $ free1 ! $ move ! (65 ∷ 66 ∷ []) $ free1 ! $ move ! (63 ∷ 64 ∷ []) $ free1 ! $ move ! (61 ∷ 62 ∷ []) $ free1 ! $ move ! (59 ∷ 60 ∷ []) $ free1 ! $ move ! (57 ∷ 58 ∷ []) $ free1 ! $ move ! (55 ∷ 56 ∷ []) $ free1 ! $ move ! (53 ∷ 54 ∷ []) $ free1 ! $ move ! (51 ∷ 52 ∷ []) $ free1 ! $ move ! (49 ∷ 50 ∷ []) $ free1 ! $ move ! (47 ∷ 48 ∷ []) $ free1 ! $ move ! (45 ∷ 46 ∷ []) $ free1 ! $ move ! (43 ∷ 44 ∷ []) $ free1 ! $ move ! (41 ∷ 42 ∷ []) $ free1 ! $ move ! (39 ∷ 40 ∷ []) $ free1 ! $ move ! (37 ∷ 38 ∷ []) $ free1 ! $ move ! (35 ∷ 36 ∷ []) $ free1 ! $ move ! (33 ∷ 34 ∷ []) $ free1 ! $ move ! (31 ∷ 32 ∷ []) $ free1 ! $ move ! (29 ∷ 30 ∷ []) $ free1 ! $ move ! (27 ∷ 28 ∷ []) $ free1 ! $ move ! (25 ∷ 26 ∷ []) $ free1 ! $ move ! (23 ∷ 24 ∷ []) $ free1 ! $ move ! (21 ∷ 22 ∷ []) $ free1 ! $ move ! (19 ∷ 20 ∷ []) $ free1 ! $ move ! (17 ∷ 18 ∷ []) $ free1 ! $ move ! (15 ∷ 16 ∷ []) $ free1 ! $ move ! (13 ∷ 14 ∷ []) $ free1 ! $ move ! (11 ∷ 12 ∷ []) $ free1 ! $ free0 ! $
+                      keep ! (0 ∷ 1 ∷ 2 ∷ 10 ∷ 4 ∷ 9 ∷ 8 ∷ 7 ∷ 6 ∷ 5 ∷ []) $ by ! (exits r (withCount 6 h) (zs .1 .1 .0) (zs .1 .1 .1 .0) (zs .1 .1 .1 .1 .0) (zs .1 .1 .1 .1 .1 .0) (zs .1 .1 .1 .1 .1 .1 .0) is′ (subst (λ (n : ℕ). Ends r (withCount n h) (zs .1 .1 .0) (zs .1 .1 .1 .0) (zs .1 .1 .1 .1 .0) (zs .1 .1 .1 .1 .1 .0) (zs .1 .1 .1 .1 .1 .1 .0)) is-6 (e .0)) m0 m1 m2 m3 m4)),
+                  -- none goes up
+                  λ none. skips ! $ exec ! C Λ E text.t-15 (atRet E Post) $
+                      assigns ! (of-opd ! (load ! (from ! (fld ! refl (stop !))) (look-in ! 57 (sub ! 0 refl (whole !))))) (from ! (stop !)) (init ! 79 refl (LL.lawful N.the-type N′.the-laws 𝓤 H A W .typed (r .answer) _ (write-told-is r is′) .0)) $
+                      move ! (8 ∷ []) $ drop ! $ owned ! G.the-row (Is G.the-row) (LL.makes G.the-type G′.the-plain 𝓤 H A) (h) _ base $
+                      move ! (8 ∷ []) $ use1 W (‵ (cellAt fullShare (G.the-row .mir) (gval (h) ∷ []) b o)) (W .laws .at-raw fullShare G′.mir b o (gval (h))) $
+                      move ! (0 ∷ 1 ∷ 9 ∷ 10 ∷ 11 ∷ []) $ closes ! tt G.the-row (h) (gval (h) ∷ []) b o $
+                      returns ! (look ! 77 refl) $
+                      forget ! 31 refl $ forget ! 33 refl $ forget ! 35 refl $ forget ! 37 refl $ forget ! 39 refl $ forget ! 41 refl $ forget ! 43 refl $ forget ! 45 refl $ forget ! 47 refl $ forget ! 49 refl $ forget ! 51 refl $ forget ! 53 refl $ forget ! 55 refl $ forget ! 57 refl $ forget ! 59 refl $ forget ! 61 refl $ forget ! 63 refl $ forget ! 65 refl $ forget ! 67 refl $ forget ! 69 refl $ forget ! 71 refl $ forget ! 73 refl $ forget ! 75 refl $ forget ! 77 refl $
+                      move ! (77 ∷ 78 ∷ []) $ free1 ! $ move ! (75 ∷ 76 ∷ []) $ free1 ! $ move ! (73 ∷ 74 ∷ []) $ free1 ! $ move ! (71 ∷ 72 ∷ []) $ free1 ! $ move ! (69 ∷ 70 ∷ []) $ free1 ! $ move ! (67 ∷ 68 ∷ []) $ free1 ! $ move ! (65 ∷ 66 ∷ []) $ free1 ! $ move ! (63 ∷ 64 ∷ []) $ free1 ! $ move ! (61 ∷ 62 ∷ []) $ free1 ! $ move ! (59 ∷ 60 ∷ []) $ free1 ! $ move ! (57 ∷ 58 ∷ []) $ free1 ! $ move ! (55 ∷ 56 ∷ []) $ free1 ! $ move ! (53 ∷ 54 ∷ []) $ free1 ! $ move ! (51 ∷ 52 ∷ []) $ free1 ! $ move ! (49 ∷ 50 ∷ []) $ free1 ! $ move ! (47 ∷ 48 ∷ []) $ free1 ! $ move ! (45 ∷ 46 ∷ []) $ free1 ! $ move ! (43 ∷ 44 ∷ []) $ free1 ! $ move ! (41 ∷ 42 ∷ []) $ free1 ! $ move ! (39 ∷ 40 ∷ []) $ free1 ! $ move ! (37 ∷ 38 ∷ []) $ free1 ! $ move ! (35 ∷ 36 ∷ []) $ free1 ! $ move ! (33 ∷ 34 ∷ []) $ free1 ! $ move ! (31 ∷ 32 ∷ []) $ free1 ! $ move ! (29 ∷ 30 ∷ []) $ free1 ! $ move ! (27 ∷ 28 ∷ []) $ free1 ! $ move ! (25 ∷ 26 ∷ []) $ free1 ! $ move ! (23 ∷ 24 ∷ []) $ free1 ! $ move ! (21 ∷ 22 ∷ []) $ free1 ! $ move ! (19 ∷ 20 ∷ []) $ free1 ! $ move ! (17 ∷ 18 ∷ []) $ free1 ! $ move ! (15 ∷ 16 ∷ []) $ free1 ! $ move ! (13 ∷ 14 ∷ []) $ free1 ! $ move ! (11 ∷ 12 ∷ []) $ free1 ! $ free0 ! $
+                      keep ! (0 ∷ 1 ∷ 2 ∷ 10 ∷ 4 ∷ 9 ∷ 8 ∷ 7 ∷ 6 ∷ 5 ∷ []) $ by ! (exits r h (zs .1 .1 .0) (zs .1 .1 .1 .0) (zs .1 .1 .1 .1 .0) (zs .1 .1 .1 .1 .1 .0) (zs .1 .1 .1 .1 .1 .1 .0) is′ (subst (λ (g : ControllerRecord). Ends r g (zs .1 .1 .0) (zs .1 .1 .1 .0) (zs .1 .1 .1 .1 .0) (zs .1 .1 .1 .1 .1 .0) (zs .1 .1 .1 .1 .1 .1 .0)) (no-count (r .counter) (r .answer .number) _ (e .1) (no-write _ (writeMode (controllerOf h .registers)) (none .0 .0 .0 .0 .1) (none .0 .0 .0 .1) (none .0 .0 .1) (none .0 .1)) (none .1) h) (e .0)) m0 m1 m2 m3 m4),
+                ),
+              ),
+            ),
+          ),
+        ))))))))))))))))))))))))))))))))))))))))))))))))))
 
 module _ {M : Type 1} (𝓤 : URA M) (H : Heap 𝓤) (A : Atoms 𝓤) (W : Given 𝓤 H A) (at-mem : Memory → SProp 𝓤) (run : Routine → Fun 𝓤) where
-  place-walks : (C : Calls 𝓤 H) (Λ : Loops 𝓤 H) → FmC 𝓤 H (W .laws) C → Triple 𝓤 (C #by-value) (Called 𝓤 H A at-mem run) → Walks 𝓤 H A place.ended stayed (WpFn 𝓤 H C Λ code.function) (place.clauses 𝓤 H A at-mem run)
-  place-walks C Λ fm known = walked 𝓤 H A place.ended stayed (place.clauses 𝓤 H A at-mem run) (WpFn 𝓤 H C Λ code.function)
+  place-walks : (C : Calls 𝓤 H) (Λ : Loops 𝓤 H) → FmC 𝓤 H (W .laws) C → Triple 𝓤 (C #by-value) (Called 𝓤 H A at-mem run) → Triple 𝓤 (C #sum) (Summed 𝓤 H A at-mem run) → Walks 𝓤 H A place.ended stayed (WpFn 𝓤 H C Λ code.function) (place.clauses 𝓤 H A at-mem run)
+  place-walks C Λ fm known adds = walked 𝓤 H A place.ended stayed (place.clauses 𝓤 H A at-mem run) (WpFn 𝓤 H C Λ code.function)
       (λ κs. (ptr-vals, (ptr-vals, (slice-vals, (slice-vals, (slice-vals, (slice-vals, (slice-vals, (uint-vals w64, (uint-vals w8, (uint-vals w8, tt)))))))))))
       (λ κs. (mut-tells (named 0) (κs .0) G.the-row, (shr-tells (named 1) (κs .1 .0) S.the-row, (mut-slice-tells (named 2) (κs .1 .1 .0) u8, (mut-slice-tells (named 3) (κs .1 .1 .1 .0) u8, (mut-slice-tells (named 4) (κs .1 .1 .1 .1 .0) u8, (mut-slice-tells (named 5) (κs .1 .1 .1 .1 .1 .0) u8, (mut-slice-tells (named 6) (κs .1 .1 .1 .1 .1 .1 .0) u8, (uint-tells w64, (uint-tells w8, (uint-tells w8, tt)))))))))))
-      (λ κs qs bounds a g are. via 𝓤 _ (fst∗ 𝓤 _ (emp 𝓤)) (walk 𝓤 H A W at-mem run (κs .0) (κs .1 .0) (κs .1 .1 .0) (κs .1 .1 .1 .0) (κs .1 .1 .1 .1 .0) (κs .1 .1 .1 .1 .1 .0) (κs .1 .1 .1 .1 .1 .1 .0) (qs .0) (qs .1 .0) (qs .1 .1 .0) (qs .1 .1 .1 .0) (qs .1 .1 .1 .1 .0) (qs .1 .1 .1 .1 .1 .0) (qs .1 .1 .1 .1 .1 .1 .0) (a .0 .ptr .0) (a .0 .ptr .1) (a .0 .name) (a .0 .now) (a .1 .0 .ptr .0) (a .1 .0 .ptr .1) (a .1 .0 .name) (a .1 .0 .now) (a .1 .1 .0) (a .1 .1 .1 .0) (a .1 .1 .1 .1 .0) (a .1 .1 .1 .1 .1 .0) (a .1 .1 .1 .1 .1 .1 .0) (a .1 .1 .1 .1 .1 .1 .1 .0) (a .1 .1 .1 .1 .1 .1 .1 .1 .0) (a .1 .1 .1 .1 .1 .1 .1 .1 .1 .0) (are .1 .1 .0 .0 .1) (are .1 .1 .1 .0 .0 .1) (are .1 .1 .1 .1 .0 .0 .1) (are .1 .1 .1 .1 .1 .0 .0 .1) (are .1 .1 .1 .1 .1 .1 .0 .0 .1) (are .1 .1 .1 .1 .1 .1 .1 .0 .1) (are .1 .1 .1 .1 .1 .1 .1 .1 .0 .1) (are .1 .1 .1 .1 .1 .1 .1 .1 .1 .0 .1) C Λ fm known))
+      (λ κs qs bounds a g are. via 𝓤 _ (fst∗ 𝓤 _ (emp 𝓤)) (walk 𝓤 H A W at-mem run (κs .0) (κs .1 .0) (κs .1 .1 .0) (κs .1 .1 .1 .0) (κs .1 .1 .1 .1 .0) (κs .1 .1 .1 .1 .1 .0) (κs .1 .1 .1 .1 .1 .1 .0) (qs .0) (qs .1 .0) (qs .1 .1 .0) (qs .1 .1 .1 .0) (qs .1 .1 .1 .1 .0) (qs .1 .1 .1 .1 .1 .0) (qs .1 .1 .1 .1 .1 .1 .0) (a .0 .ptr .0) (a .0 .ptr .1) (a .0 .name) (a .0 .now) (a .1 .0 .ptr .0) (a .1 .0 .ptr .1) (a .1 .0 .name) (a .1 .0 .now) (a .1 .1 .0) (a .1 .1 .1 .0) (a .1 .1 .1 .1 .0) (a .1 .1 .1 .1 .1 .0) (a .1 .1 .1 .1 .1 .1 .0) (a .1 .1 .1 .1 .1 .1 .1 .0) (a .1 .1 .1 .1 .1 .1 .1 .1 .0) (a .1 .1 .1 .1 .1 .1 .1 .1 .1 .0) (are .1 .1 .0 .0 .1) (are .1 .1 .1 .0 .0 .1) (are .1 .1 .1 .1 .0 .0 .1) (are .1 .1 .1 .1 .1 .0 .0 .1) (are .1 .1 .1 .1 .1 .1 .0 .0 .1) (are .1 .1 .1 .1 .1 .1 .1 .0 .1) (are .1 .1 .1 .1 .1 .1 .1 .1 .0 .1) (are .1 .1 .1 .1 .1 .1 .1 .1 .1 .0 .1) C Λ fm known adds))
 
-place-meets : {M : Type 1} (𝓤 : URA M) (H : Heap 𝓤) (A : Atoms 𝓤) → Given 𝓤 H A → (at-mem : Memory → SProp 𝓤) (run : Routine → Fun 𝓤) (𝓣 : Tables 𝓤 H) → Triple 𝓤 (𝓣 .C #by-value) (Called 𝓤 H A at-mem run)
+place-meets : {M : Type 1} (𝓤 : URA M) (H : Heap 𝓤) (A : Atoms 𝓤) → Given 𝓤 H A → (at-mem : Memory → SProp 𝓤) (run : Routine → Fun 𝓤) (𝓣 : Tables 𝓤 H) → Triple 𝓤 (𝓣 .C #by-value) (Called 𝓤 H A at-mem run) → Triple 𝓤 (𝓣 .C #sum) (Summed 𝓤 H A at-mem run)
     → Meets 𝓤 H A place.signature (WpFn 𝓤 H (𝓣 .C) (𝓣 .Λ) code.function) (place.spec 𝓤 H A at-mem run)
-place-meets 𝓤 H A W at-mem run 𝓣 known =
+place-meets 𝓤 H A W at-mem run 𝓣 known adds =
     walk-meets 𝓤 H A place.ended stayed W (goes-ref 𝓤 H A W 7 0 tt (plain (λ _. G.the-row)), (goes-dropped 𝓤 H A W 7 (shrRefTo (1 ∷ []) tt (plain (λ _. S.the-row))) yes (λ κs x f. refl), (goes-gave-slice 𝓤 H A W 7 2 tt (plain (λ _. u8)), (goes-gave-slice 𝓤 H A W 7 3 tt (plain (λ _. u8)), (goes-gave-slice 𝓤 H A W 7 4 tt (plain (λ _. u8)), (goes-gave-slice 𝓤 H A W 7 5 tt (plain (λ _. u8)), (goes-gave-slice 𝓤 H A W 7 6 tt (plain (λ _. u8)), (goes-dropped 𝓤 H A W 7 (plain (λ _. usize)) yes (λ κs x f. refl), (goes-dropped 𝓤 H A W 7 (plain (λ _. u8)) yes (λ κs x f. refl), (goes-dropped 𝓤 H A W 7 (plain (λ _. u8)) yes (λ κs x f. refl), tt)))))))))) (place.clauses 𝓤 H A at-mem run)
-    (WpFn 𝓤 H (𝓣 .C) (𝓣 .Λ) code.function) (WpFn-mono 𝓤 H (W .laws) 𝓣 code.function) (place-walks 𝓤 H A W at-mem run (𝓣 .C) (𝓣 .Λ) (fmOf 𝓤 H (W .laws) 𝓣) known)
+    (WpFn 𝓤 H (𝓣 .C) (𝓣 .Λ) code.function) (WpFn-mono 𝓤 H (W .laws) 𝓣 code.function) (place-walks 𝓤 H A W at-mem run (𝓣 .C) (𝓣 .Λ) (fmOf 𝓤 H (W .laws) 𝓣) known adds)
 
 pub iddesmar-gc-cpu-write-u8-2-spec : {M : Type 1} → stated.statement M
 unfolding code.routine tablesOf
@@ -217,4 +308,5 @@ iddesmar-gc-cpu-write-u8-2-spec 𝓤 H 𝓜 𝓖 𝓡 =
     entered 𝓤 H (tripleOf 𝓤 H (𝓖 .A) place.signature (place.spec 𝓤 H (𝓖 .A) (𝓜 .mem) (𝓡 .run)))
     (tables 𝓤 H 𝓜 𝓡 code.env .C) (tables 𝓤 H 𝓜 𝓡 code.env .Λ) #place code.function (code.unfolded 𝓤 H 𝓜 𝓡)
     (place-meets 𝓤 H (𝓖 .A) (givenOf 𝓤 H 𝓜 𝓖) (𝓜 .mem) (𝓡 .run) (tablesOf 𝓤 H 𝓜 (tables 𝓤 H 𝓜 𝓡 code.env))
-    (cited 𝓤 H (Called 𝓤 H (𝓖 .A) (𝓜 .mem) (𝓡 .run)) 𝓜 𝓡 code.env #by-value by-value-def.routine code.calls-host-calls·write-of (by-value-thm.met 𝓤 H 𝓜 𝓖 𝓡)))
+    (cited 𝓤 H (Called 𝓤 H (𝓖 .A) (𝓜 .mem) (𝓡 .run)) 𝓜 𝓡 code.env #by-value by-value-def.routine code.calls-host-calls·write-of (by-value-thm.met 𝓤 H 𝓜 𝓖 𝓡))
+    (cited 𝓤 H (Summed 𝓤 H (𝓖 .A) (𝓜 .mem) (𝓡 .run)) 𝓜 𝓡 code.env #sum sum-def.routine code.calls-std·num·wrapping-add-u32 (sum-thm.met 𝓤 H 𝓜 𝓖 𝓡)))

@@ -147,8 +147,8 @@ module _ {M : Type 1} (𝓤 : URA M) (H : Heap 𝓤) (A : Atoms 𝓤) (W : Given
           land ! (from ! (stop !)) (init ! 9 refl (LL.lawful R.the-type R′.the-laws 𝓤 H A W .typed r _ is .0)) $
           rewrite ! 9 (λ (v : Val). ‵ (fat fullShare R′.mir l2 0 v)) we refl $
           assigns ! (of-opd ! (load ! (from ! (fld ! refl (stop !))) (look-in ! 9 (sub ! 1 refl (whole !))))) (from ! (hop ! (look ! 11 refl) (stop !))) (store ! 2 refl (LL.lawful G.the-type G′.the-laws 𝓤 H A W .typed (r .gc) _ (gc-is r is′) .0)) $
-          assigns ! (of-opd ! (load ! (from ! (fld ! refl (stop !))) (look-in ! 9 (sub ! 0 refl (whole !))))) (from ! (stop !)) (init ! 13 refl (LL.lawful N.the-type N′.the-laws 𝓤 H A W .typed (r .answer) _ (an-is r is′) .0)) $
           -- the borrow is closed at the new record
+          assigns ! (of-opd ! (load ! (from ! (fld ! refl (stop !))) (look-in ! 9 (sub ! 0 refl (whole !))))) (from ! (stop !)) (init ! 13 refl (LL.lawful N.the-type N′.the-laws 𝓤 H A W .typed (r .answer) _ (an-is r is′) .0)) $
           move ! (3 ∷ []) $ drop ! $ owned ! G.the-row (Is G.the-row) (LL.makes G.the-type G′.the-plain 𝓤 H A) (r .gc) _ (gc-is r is′) $
           move ! (3 ∷ []) $ use1 W (‵ (cellAt fullShare (G.the-row .mir) (gval (r .gc) ∷ []) b o)) (W .laws .at-raw fullShare G′.mir b o (gval (r .gc))) $
           move ! (0 ∷ 1 ∷ 4 ∷ 5 ∷ 6 ∷ []) $ closes ! tt G.the-row (r .gc) (gval (r .gc) ∷ []) b o $
