@@ -3,8 +3,8 @@ ghost use mathlib.Core.Path.{_≡_};
 ghost use mathlib.Core.List.{[]};
 ghost use Rattle.machine.specs.Answers.{changes, said, clockSaid, mappedSaid, partSaid, storeSaid};
 ghost use Rattle.answers.specs.Wide.{clockAnswerSaid, mappedAnswerSaid, shownOf, inNumbers, storedOf};
-use crate::narrow::of_done;
 use machine_types::ClockAnswer;
+use machine_types::DoneAnswer;
 use machine_types::MappedAnswer;
 use machine_types::Refusal;
 use machine_types::ShownPixels;
@@ -103,16 +103,18 @@ pub fn of_part(number: u8, part: &[u8]) -> Shown
     Shown { number, pixels }
 }
 
-// A show's number and its eight pixels.
+// A show's number and its eight pixels, made in an arm for each answer: of one number for both the compiler works it out of the enum once more.
 pub fn of_shown(given: ShownPixels) -> Shown
     ensures { λ r. ⌜ r ≡ inNumbers given ⌝ }
 {
     let answer = given.answer;
     let pixels = given.pixels;
-    let told = of_done(answer);
-    Shown {
-        pixels,
-        number: told.number,
+    match answer {
+        DoneAnswer::Done => Shown { pixels, number: 0 },
+        DoneAnswer::Refused(x) => {
+            let number = fields::refusal_number(x);
+            Shown { pixels, number }
+        }
     }
 }
 
