@@ -1,4 +1,4 @@
--- What the walks share that raise a counter where it stands: the call of `wrapping_add_u32` with 1, by its contract, and where their locals stand. Assumes nothing.
+-- What the walks share that store one field where it stands: where their locals stand, and for a counter the call of `wrapping_add_u32` with 1, by its contract. Assumes nothing.
 use mathlib.Core.Path.{_≡_, refl, sym, ap, subst, _∙_}
 use Prim.Native.Nat.{ℕ, _+_, _%_, _^_, _<_}
 use native.Mathlib.Omega.{arith}

@@ -61,7 +61,19 @@ pub extern "C" fn iddesmar_gc_write_data(gc: &mut ControllerRecord, byte: u8) ->
     ensures { λ r. ⌜ outcome (answerSaid r) (now (gc .exit)) ≡ graphicsHosted (now (gc .entry)) (one 0) (gcWriteData byte) ⌝ }
 {
     let w = data_of(*gc, byte);
-    *gc = w.gc;
+    // one register is stored where it stands
+    match w.register {
+        0 => gc.set_reset = w.value,
+        1 => gc.enable_set_reset = w.value,
+        2 => gc.color_compare = w.value,
+        3 => gc.data_rotate = w.value,
+        4 => gc.read_map_select = w.value,
+        5 => gc.mode = w.value,
+        6 => gc.miscellaneous = w.value,
+        7 => gc.color_dont_care = w.value,
+        8 => gc.bitmask = w.value,
+        _ => {}
+    }
     w.answer
 }
 

@@ -13,7 +13,7 @@ use Rattle.answers.specs.declared.narrow.Answer.{Answer}
 use Rattle.answers.specs.declared.wide.Stored.{Stored}
 use Rattle.answers.proofs.Told.{answer-is}
 use Rattle.host_records.specs.declared.record.ControllerRecord.{ControllerRecord}
-use Rattle.host_records.specs.Records.{counterOf, controllerOf}
+use Rattle.host_records.specs.Records.{counterOf, dataRegister, dataValue, controllerOf}
 use Rattle.host_records.proofs.Told.{controller-answer-is, sequencer-answer-is}
 use Rattle.host_calls.specs.Hosted.{Held}
 use Rattle.machine_types.proofs.OneAnswer.{OneAnswer, OneOutcome}
@@ -54,7 +54,11 @@ module _ (κs : Lfts 0) (a : Dens κs address-of-kinds.ps) where
 
 module _ (κs : Lfts 0) (a : Dens κs data-of-kinds.ps) where
   pub data-of-determined : OneAnswer (data-of.Post κs a)
-  data-of-determined r r′ e e′ p q = controller-answer-is r r′ p q
+  data-of-determined r r′ e e′ p q =
+      let told = answer-is (r .answer) (r′ .answer) (answer-of (p .0) (q .0)) in
+      let place = p .1 ∙ ap (λ (u : Answer). dataRegister (u .number) (a .0)) told ∙ sym (q .1) in
+      let value = p .2 ∙ ap (λ (u : Answer). dataValue (u .number) (a .0) (a .1 .0)) told ∙ sym (q .2) in
+      ap₂ (λ (u : Answer × ℕ) (x : ℕ). record { answer = u .0; register = u .1; value = x }) (ap₂ (λ (u : Answer) (k : ℕ). (u, k)) told place) value
 
 -- ---- the sequencer's record
 

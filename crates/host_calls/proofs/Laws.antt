@@ -1,6 +1,7 @@
 -- What the host's proofs cite: a call on records that are known, or not, and what a write leaves as it was.
 use Prim.Native.Nat.{ℕ, zero, suc, _+_, _/_, _%_, _^_, _<_}
 use native.Mathlib.Omega.{arith}
+use mathlib.Core.Logic.{_≢_}
 use mathlib.Core.Path.{_≡_, refl, sym, ap, ap₂, subst, _∙_}
 use mathlib.Core.Bool.{Bool, true, false, not}
 use mathlib.Core.List.{List, [], _∷_}
@@ -19,7 +20,7 @@ use Rattle.machine.specs.Answers.{Value, Said, said, Outcome, outcome, answered
 use Rattle.machine.specs.Graphics.{gcOf, readMode, writeMode}
 use Rattle.machine.specs.Address.{offset}
 use Rattle.machine.specs.Deeds.{latchesAfter, memoryAfter, valueOf, perform}
-use Rattle.machine.specs.Calls.{SequencerCall, DirectCall, GraphicsCall, CpuCall, directPlan, gcNumberOf, cpuRead, cpuWrite, CpuPlan, cpuPlan, writeDeed}
+use Rattle.machine.specs.Calls.{SequencerCall, DirectCall, GraphicsCall, CpuCall, directPlan, gcNumberOf, gcNext, gcWriteData, cpuRead, cpuWrite, CpuPlan, cpuPlan, writeDeed}
 use Rattle.machine.specs.Calls.{counted, readCounter, writeCounter, refusedCounter, refusalCounter}
 use Rattle.machine.specs.Step.{Device, device, lifted, cpuAfter, cpuRefused, cpuPerform, sequencerStep, directStep, graphicsStep, cpuStep}
 use Rattle.answers.specs.declared.wide.Shown.{Shown}
@@ -27,9 +28,9 @@ use Rattle.answers.specs.declared.wide.Stored.{Stored}
 use Rattle.answers.specs.Wide.{storedOf, StoredAs}
 use Rattle.host_records.specs.declared.record.ControllerRecord.{ControllerRecord}
 use Rattle.host_records.specs.declared.record.SequencerRecord.{SequencerRecord}
-use Rattle.host_records.specs.Records.{knownGc, knownSeq, knownBoth, controllerOf, controllerRecordOf, sequencerOf, sequencerRecordOf, statsOf, statsRecordOf, leftTo}
-use Rattle.host_records.specs.Records.{withStats, withLatches, withCount, counterOf}
-use Rattle.host_records.proofs.Laws.{record-back, known-gc, left-lifted}
+use Rattle.host_records.specs.Records.{knownGc, knownSeq, knownBoth, controllerOf, controllerRecordOf, sequencerOf, sequencerRecordOf, statsOf, statsRecordOf, leftBy, leftTo}
+use Rattle.host_records.specs.Records.{withStats, withLatches, withCount, counterOf, withRegister, registerAt, dataRegister, dataValue}
+use Rattle.host_records.proofs.Laws.{record-back, known-gc, left-lifted, data-stored, register-kept}
 use Rattle.host_calls.specs.Hosted.{held, heldOf, sequencerHosted, directHosted, graphicsHosted, cpuHosted}
 
 -- what a test of a record says, asked for negated as the code does
@@ -94,6 +95,53 @@ module _ (g : ControllerRecord) (v : Value) (c : GraphicsCall) where
 
   pub graphics-asked : true ≡ knownGc g → (g′ : GraphicsController) → g′ ≡ controllerOf g → (a b : Said) → b ≡ a → outcome a g′ ≡ graphicsStep g′ c → outcome b g ≡ graphicsHosted g v c
   graphics-asked e g′ i a b f p = graphics-known e g′ i a g′ (outcome b g) (ap₂ outcome f (sym (ap (controllerRecordOf (g .spare)) i ∙ record-back g e))) p
+
+-- ---- data go to one register
+
+-- of an outcome as a host is left with it, what its answer's number leaves
+left-of : {S T : Type 0} (f : S → T) (n : ℕ) (v : Value) (new old : S) (kept : T) (b : Said) (h : T) → outcome b h ≡ leftTo f (answered n v new old) kept → h ≡ leftBy (b .number) (f new) kept
+left-of {T = T} f zero v new old kept b h p = rw (ap (λ (o : Outcome T). o .answer) p) (ap (λ (o : Outcome T). o .next) p)
+left-of {T = T} f (suc n) v new old kept b h p = rw (ap (λ (o : Outcome T). o .answer) p) (ap (λ (o : Outcome T). o .next) p)
+
+-- what a data write stores, by its answer's number
+stored-by : (n : ℕ) (g : ControllerRecord) (y : ℕ) → withRegister (dataRegister n g) (dataValue n g y) g ≡ leftBy n (withRegister (g .«register_selected») (dataValue 0 g y) g) g
+stored-by zero g y = refl
+stored-by (suc n) g y = refl
+
+stored-none : (n : ℕ) (g : ControllerRecord) (y : ℕ) → n ≢ 0 → (9 ≡ dataRegister n g) × (0 ≡ dataValue n g y)
+stored-none zero g y h = absurd (h refl)
+stored-none (suc n) g y h = (refl, refl)
+
+-- a register and its value are what a data write stores, beside its answer
+abbrev Stores : ControllerRecord → Value → ℕ → Said → ℕ → ℕ → Type 0
+Stores g v y b k x = (outcome b (withRegister k x g) ≡ graphicsHosted g v (gcWriteData y)) × (k ≡ dataRegister (b .number) g) × (x ≡ dataValue (b .number) g y)
+
+pub data-unknown : (g : ControllerRecord) (v : Value) (y : ℕ) → false ≡ knownGc g → (b : Said) → b ≡ said 6 v → Stores g v y b 9 0
+data-unknown g v y e b f = (graphics-unknown g v (gcWriteData y) e b f, rw f, rw f)
+
+module _ (g : ControllerRecord) (v : Value) (y : ℕ) (known : true ≡ knownGc g) (b : Said) (h : ControllerRecord) (p : outcome b h ≡ graphicsHosted g v (gcWriteData y)) where
+  data-left : h ≡ leftBy (b .number) (withRegister (g .«register_selected») (dataValue 0 g y) g) g
+  unfolding graphicsHosted graphicsStep gcNext
+  data-left =
+      left-of (controllerRecordOf (g .spare)) (gcNumberOf (controllerOf g .registers) (gcWriteData y)) _ (gcNext (controllerOf g) (gcWriteData y)) (controllerOf g) g b h (p ∙ left)
+      ∙ ap (λ (k : ControllerRecord). leftBy (b .number) k g) (data-stored g y known)
+    where
+      left : graphicsHosted g v (gcWriteData y) ≡ leftTo (controllerRecordOf (g .spare)) (graphicsStep (controllerOf g) (gcWriteData y)) g
+      left = rw (← known)
+
+  stores : (k x : ℕ) → k ≡ dataRegister (b .number) g → x ≡ dataValue (b .number) g y → Stores g v y b k x
+  stores k x e f = (ap₂ (λ (k x : ℕ). outcome b (withRegister k x g)) e f ∙ ap (outcome b) (stored-by (b .number) g y ∙ sym data-left) ∙ p, e, f)
+
+  pub data-refused : b .number ≢ 0 → Stores g v y b 9 0
+  data-refused n = let none = stored-none (b .number) g y n in stores 9 0 (none .0) (none .1)
+
+  pub data-done : b .number ≡ 0 → (x : ℕ) → x ≡ registerAt (g .«register_selected») h → Stores g v y b (g .«register_selected») x
+  data-done n x e = stores (g .«register_selected») x (rw n) (e ∙ value)
+    where
+      value : registerAt (g .«register_selected») h ≡ dataValue (b .number) g y
+      value =
+          ap (registerAt (g .«register_selected»)) (data-left ∙ ap (λ (n : ℕ). leftBy n (withRegister (g .«register_selected») (dataValue 0 g y) g) g) n)
+          ∙ register-kept g y known ∙ ap (λ (n : ℕ). dataValue n g y) (sym n)
 
 -- ---- calls on both records and memory
 

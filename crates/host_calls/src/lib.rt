@@ -8,7 +8,7 @@ ghost use Rattle.machine.specs.Calls.{readCounter, writeCounter, cpuRead, cpuPe
 ghost use Rattle.machine.specs.Step.{lifted, graphicsStep};
 ghost use Rattle.answers.specs.Answers.{answerSaid};
 ghost use Rattle.answers.specs.Wide.{shownOf, pixelsShown, StoredAs};
-ghost use Rattle.host_records.specs.Records.{isSet, counterOf, withCount, withLatches, controllerOf, controllerRecordOf};
+ghost use Rattle.host_records.specs.Records.{isSet, counterOf, withCount, withLatches, withRegister, dataRegister, dataValue, controllerOf, controllerRecordOf};
 ghost use Rattle.host_calls.specs.Hosted.{held, cpuHosted, graphicsHosted, sequencerHosted};
 use answers::Answer;
 use answers::Shown;
@@ -25,12 +25,14 @@ use graphics_controller::cpu_read_u8;
 use graphics_controller::cpu_write_u8;
 use graphics_controller::show_pixels;
 use host_records::left::ControllerAnswer;
+use host_records::left::DataAnswer;
 use host_records::left::ReadAnswer;
 use host_records::left::SequencerAnswer;
 use host_records::left::WriteAnswer;
 use host_records::left::counter_of;
 use host_records::left::of_graphics_done;
 use host_records::left::of_sequencer_done;
+use host_records::left::register_of;
 use host_records::left::unknown_controller;
 use host_records::left::unknown_sequencer;
 use host_records::record::ControllerRecord;
@@ -231,16 +233,35 @@ pub fn address_of(gc: ControllerRecord, byte: u8) -> ControllerAnswer
     )
 }
 
-pub fn data_of(gc: ControllerRecord, byte: u8) -> ControllerAnswer
-    ensures { λ r. ⌜ outcome (answerSaid (r .answer)) (r .gc) ≡ graphicsHosted gc (one 0) (gcWriteData byte) ⌝ }
+// Data go to the selected register: which one is stored comes back with its value, and none where the write is refused.
+pub fn data_of(gc: ControllerRecord, byte: u8) -> DataAnswer
+    ensures { λ r. ⌜ (outcome (answerSaid (r .answer)) (withRegister (r .register) (r .value) gc) ≡ graphicsHosted gc (one 0) (gcWriteData byte))
+        × (r .register ≡ dataRegister (r .answer .number) gc) × (r .value ≡ dataValue (r .answer .number) gc byte) ⌝ }
 {
     if !known_controller(gc) {
-        return unknown_controller(gc);
+        return DataAnswer {
+            answer: unknown(),
+            register: 9,
+            value: 0,
+        };
     }
-    of_graphics_done(
+    let w = of_graphics_done(
         gc.spare,
         graphics_controller::write_data(to_controller(gc), byte),
-    )
+    );
+    let answer = w.answer;
+    if answer.number != 0 {
+        return DataAnswer {
+            answer,
+            register: 9,
+            value: 0,
+        };
+    }
+    DataAnswer {
+        answer,
+        register: gc.register_selected,
+        value: register_of(w.gc, gc.register_selected),
+    }
 }
 
 pub fn sequencer_address_of(seq: SequencerRecord, byte: u8) -> SequencerAnswer

@@ -32,6 +32,8 @@ use Rattle.host_records.proofs.left.of_graphics_done.Reads as of-graphi
 use Rattle.host_records.proofs.left.of_graphics_done.Kinds as of-graphics-done-kinds
 use Rattle.host_records.proofs.left.counter_of.Reads as counter-of
 use Rattle.host_records.proofs.left.counter_of.Kinds as counter-of-kinds
+use Rattle.host_records.proofs.left.register_of.Reads as register-of
+use Rattle.host_records.proofs.left.register_of.Kinds as register-of-kinds
 
 -- ---- records
 
@@ -92,3 +94,7 @@ module _ (κs : Lfts 0) (a : Dens κs of-graphics-done-kinds.ps) where
 module _ (κs : Lfts 0) (a : Dens κs counter-of-kinds.ps) where
   pub counter-of-determined : OneAnswer (counter-of.Post κs a)
   counter-of-determined r r′ e e′ p q = p ∙ sym q
+
+module _ (κs : Lfts 0) (a : Dens κs register-of-kinds.ps) where
+  pub register-of-determined : OneAnswer (register-of.Post κs a)
+  register-of-determined r r′ e e′ p q = p ∙ sym q

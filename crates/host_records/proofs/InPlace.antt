@@ -5,11 +5,11 @@ use mathlib.Core.Path.{_≡_, refl}
 use mathlib.Core.Bool.{Bool, true, false}
 use mathlib.Core.List.{List, [], _∷_}
 use lib.Dec.{eqb}
-use mir.Syntax.{Sym, w32}
+use mir.Syntax.{Sym, w8, w32}
 use mir.Val.{Val, vint}
 use denote.RattleType.{Denots}
 use denote.Laws.{Is}
-use denote.Builtin.{u32}
+use denote.Builtin.{u8, u32}
 use denote.Ref.{RefT}
 use denote.Struct.Field.{Field, rows, u8-field, array-field}
 use denote.Struct.Declared.{Declared, fields, row, field}
@@ -24,7 +24,8 @@ use Rattle.host_records.specs.declared.left.ControllerAnswer.{Controller
 use Rattle.host_records.specs.declared.left.SequencerAnswer.{SequencerAnswer}
 use Rattle.host_records.specs.declared.left.ReadAnswer.{ReadAnswer}
 use Rattle.host_records.specs.declared.left.WriteAnswer.{WriteAnswer}
-use Rattle.host_records.specs.Records.{withLatches, withCount}
+use Rattle.host_records.specs.declared.left.DataAnswer.{DataAnswer}
+use Rattle.host_records.specs.Records.{withLatches, withCount, withRegister}
 use Rattle.host_records.proofs.record.StatsRecord as T
 use Rattle.host_records.proofs.record.StatsRecord.Laws as T′
 use Rattle.host_records.proofs.record.ControllerRecord as G
@@ -39,6 +40,8 @@ use Rattle.host_records.proofs.left.ReadAnswer as D
 use Rattle.host_records.proofs.left.ReadAnswer.Laws as D′
 use Rattle.host_records.proofs.left.WriteAnswer as C
 use Rattle.host_records.proofs.left.WriteAnswer.Laws as C′
+use Rattle.host_records.proofs.left.DataAnswer as E
+use Rattle.host_records.proofs.left.DataAnswer.Laws as E′
 use Rattle.host_records.proofs.left.ControllerAnswer as R
 use Rattle.host_records.proofs.left.SequencerAnswer as Q
 
@@ -212,3 +215,34 @@ module _ (h : ControllerRecord) (is : Is G.the-row h (gval h ∷ [])) where
       let writes = with-more (counter-is (eqb n 2) _ (o .1 .1 .0)) (with-more (counter-is (eqb n 3) _ (o .1 .1 .1 .0)) reads) in
       let all = with-more (counter-is (eqb n 0) _ (o .0)) (with-more (counter-is (eqb n 1) _ (o .1 .0)) writes) in
       LL.owes G.the-type G′.the-laws (withCount n h) (LL.owes T.the-type T′.the-laws (withCount n h .stats) all, LL.owed G.the-type G′.the-laws h _ is .1)
+
+-- ---- a data write's answer, and the record with a register stored
+
+abbrev pub data-val : DataAnswer → Val
+data-val = LL.val E.the-type E′.the-laws
+
+abbrev pub data-told : DataAnswer → Val
+data-told r = LL.val N.the-type N′.the-laws (r .answer)
+
+pub data-told-is : (r : DataAnswer) → Is E.the-row r (data-val r ∷ []) → Is N.the-row (r .answer) (data-told r ∷ [])
+data-told-is r is = LL.owed E.the-type E′.the-laws r _ is .0
+
+-- what the value knows: it is a byte
+pub value-is : (r : DataAnswer) → Is E.the-row r (data-val r ∷ []) → Is u8 (r .value) (vint w8 (r .value) ∷ [])
+value-is r is = LL.owed E.the-type E′.the-laws r _ is .1 .1 .0
+
+register-is : (b : Bool) (v x : ℕ) → Is u8 v (vint w8 v ∷ []) → Is u8 x (vint w8 x ∷ []) → let y = pick b v x in Is u8 y (vint w8 y ∷ [])
+register-is true v x new old = new
+register-is false v x new old = old
+
+module _ (h : ControllerRecord) (is : Is G.the-row h (gval h ∷ [])) (v : ℕ) (new : Is u8 v (vint w8 v ∷ [])) where
+  pub registered-is : (n : ℕ) → Is G.the-row (withRegister n v h) (gval (withRegister n v h) ∷ [])
+  registered-is n =
+      let o = LL.owed G.the-type G′.the-laws h _ is in
+      let a = o .1 .1 .1 in
+      let b = a .1 .1 .1 .1 in
+      let last = with-more (register-is (eqb n 7) v _ new (b .1 .1 .1 .0)) (with-more (register-is (eqb n 8) v _ new (b .1 .1 .1 .1 .0)) (b .1 .1 .1 .1 .1)) in
+      let more = with-more (register-is (eqb n 4) v _ new (b .0)) (with-more (register-is (eqb n 5) v _ new (b .1 .0)) (with-more (register-is (eqb n 6) v _ new (b .1 .1 .0)) last)) in
+      let rest = with-more (register-is (eqb n 2) v _ new (a .1 .1 .0)) (with-more (register-is (eqb n 3) v _ new (a .1 .1 .1 .0)) more) in
+      let all = with-more (register-is (eqb n 0) v _ new (a .0)) (with-more (register-is (eqb n 1) v _ new (a .1 .0)) rest) in
+      LL.owes G.the-type G′.the-laws (withRegister n v h) (o .0, (o .1 .0, (o .1 .1 .0, all)))

@@ -2,10 +2,10 @@
 use Prim.Native.Nat.{ℕ, zero, suc, _≤_}
 use native.Mathlib.Omega.{arith}
 use mathlib.Core.Logic.{_≢_}
-use mathlib.Core.Path.{_≡_, refl, sym}
+use mathlib.Core.Path.{_≡_, refl, sym, ap₂, _∙_}
 use mathlib.Core.Bool.{Bool, true, false}
 use lib.Dec.{leb}
-use borrow.Author.Tests.{leb-true}
+use borrow.Author.Tests.{leb-true, ne-eqb}
 use Rattle.bits.specs.Bit.{bitOf, pick}
 use Rattle.machine_types.specs.declared.answer.Refusal.{Refusal}
 use Rattle.machine_types.specs.declared.answer.Refusal.the-variants.{Memory, Window, Offset, Plane, Place, State, Damaged, Range, Shift, Room}
@@ -21,13 +21,14 @@ use Rattle.machine_types.specs.declared.seq.SequencerRegister.{SequencerRegiste
 use Rattle.machine_types.specs.declared.seq.SequencerRegister.the-variants.{Reset, ClockingMode, MapMask, CharacterMapSelect, MemoryMode, Invalid}
 use Rattle.machine.specs.Answers.{refusalNumber, Value, answered}
 use Rattle.machine.specs.Calls.{readCounter, writeCounter, refusedCounter, noCounter, isCounted}
-use Rattle.machine.specs.Graphics.{selects, registerNumber}
+use Rattle.machine.specs.Graphics.{selects, registerNumber, keeps, withData, gcOf}
 use Rattle.machine.specs.Sequencer.{selectsSeq, seqNumber}
 use Rattle.machine.specs.Step.{lifted}
 use Rattle.machine.proofs.Laws.{both}
 use Rattle.host_records.specs.declared.record.ControllerRecord.{ControllerRecord}
 use Rattle.host_records.specs.declared.record.SequencerRecord.{SequencerRecord}
-use Rattle.host_records.specs.Records.{knownGc, knownSeq, knownBoth, isSet, controllerOf, controllerRecordOf, sequencerOf, sequencerRecordOf, withCount, counterOf, leftBy, leftTo}
+use Rattle.host_records.specs.Records.{knownGc, knownSeq, knownBoth, isSet, controllerOf, controllerRecordOf, sequencerOf, sequencerRecordOf, leftBy, leftTo}
+use Rattle.host_records.specs.Records.{withCount, counterOf, withRegister, registerAt}
 
 -- ---- registers by number
 
@@ -160,3 +161,50 @@ no-write k Mode3 a b c d = d
 pub no-read : (k : ℕ) (r : ReadMode) → k ≢ 4 → k ≢ 5 → k ≢ readCounter r
 no-read k ReadSelectedPlane a b = a
 no-read k ReadComparedPlanes a b = b
+
+-- ---- which register is stored
+
+-- none from 9 up
+pub no-register : (n v : ℕ) → n ≢ 0 → n ≢ 1 → n ≢ 2 → n ≢ 3 → n ≢ 4 → n ≢ 5 → n ≢ 6 → n ≢ 7 → n ≢ 8 → (g : ControllerRecord) → withRegister n v g ≡ g
+no-register n v a b c d e f h i j g =
+    rw (ne-eqb n 0 a, ne-eqb n 1 b, ne-eqb n 2 c, ne-eqb n 3 d, ne-eqb n 4 e, ne-eqb n 5 f, ne-eqb n 6 h, ne-eqb n 7 i, ne-eqb n 8 j)
+
+-- the register of a number is the value that was stored there
+register-stored : (n v : ℕ) → n ≤ 8 → (g : ControllerRecord) → registerAt n (withRegister n v g) ≡ v
+register-stored zero v h g = refl
+register-stored (suc zero) v h g = refl
+register-stored (suc (suc zero)) v h g = refl
+register-stored (suc (suc (suc zero))) v h g = refl
+register-stored (suc (suc (suc (suc zero)))) v h g = refl
+register-stored (suc (suc (suc (suc (suc zero))))) v h g = refl
+register-stored (suc (suc (suc (suc (suc (suc zero)))))) v h g = refl
+register-stored (suc (suc (suc (suc (suc (suc (suc zero))))))) v h g = refl
+register-stored (suc (suc (suc (suc (suc (suc (suc (suc zero)))))))) v h g = refl
+register-stored (suc (suc (suc (suc (suc (suc (suc (suc (suc n))))))))) v h g = absurd (omega arith)
+
+-- data change the selected register alone, as a host keeps the controller
+data-kept : (x y : ℕ) (n : GraphicsController) (q : GraphicsRegister) → n .registers .«register_selected» ≡ q
+    → controllerRecordOf x (gcOf (withData y (n .registers)) (n .stats) (n .latches)) ≡ withRegister (registerNumber q) (keeps q y) (controllerRecordOf x n)
+unfolding withData
+data-kept x y n SetReset e = rw e
+data-kept x y n EnableSetReset e = rw e
+data-kept x y n ColorCompare e = rw e
+data-kept x y n DataRotate e = rw e
+data-kept x y n ReadMapSelect e = rw e
+data-kept x y n Mode e = rw e
+data-kept x y n Miscellaneous e = rw e
+data-kept x y n ColorDontCare e = rw e
+data-kept x y n BitMask e = rw e
+
+module _ (g : ControllerRecord) (y : ℕ) (e : true ≡ knownGc g) where
+  -- what the selected register keeps of a byte
+  abbrev kept : ℕ
+  kept = keeps (controllerOf g .registers .«register_selected») y
+
+  pub data-stored : controllerRecordOf (g .spare) (gcOf (withData y (controllerOf g .registers)) (controllerOf g .stats) (controllerOf g .latches)) ≡ withRegister (g .«register_selected») kept g
+  data-stored =
+      data-kept (g .spare) y (controllerOf g) (controllerOf g .registers .«register_selected») refl
+      ∙ ap₂ (λ (n : ℕ) (h : ControllerRecord). withRegister n kept h) (number-back (g .«register_selected») (leb-true _ _ (sym e))) (record-back g e)
+
+  pub register-kept : registerAt (g .«register_selected») (withRegister (g .«register_selected») kept g) ≡ kept
+  register-kept = register-stored (g .«register_selected») kept (leb-true _ _ (sym e)) g

@@ -1,16 +1,17 @@
 -- How a host's records, numbers alone, are read as the machine's, and the machine's as a host's.
 use Prim.Native.Nat.{ℕ, zero, suc}
 use mathlib.Core.Bool.{Bool, true, false, _&&_}
-use mathlib.Core.List.{List}
-use lib.Dec.{leb}
-use Rattle.bits.specs.Bit.{bitOf}
+use mathlib.Core.List.{List, [], _∷_}
+use lib.Dec.{eqb, leb}
+use lib.ListN.{getD}
+use Rattle.bits.specs.Bit.{bitOf, pick}
 use Rattle.machine_types.specs.declared.gc.GraphicsController.{GraphicsController}
 use Rattle.machine_types.specs.declared.gc.GraphicsControllerStats.{GraphicsControllerStats}
 use Rattle.machine_types.specs.declared.gc.GraphicsRegister.the-variants.{BitMask}
 use Rattle.machine_types.specs.declared.seq.Sequencer.{Sequencer}
 use Rattle.machine.specs.Answers.{Outcome, outcome}
 use Rattle.machine.specs.Calls.{raised, refusedCounter, refusalCounter}
-use Rattle.machine.specs.Graphics.{selects, registerNumber, gcOf}
+use Rattle.machine.specs.Graphics.{selects, registerNumber, keeps, gcOf}
 use Rattle.machine.specs.Sequencer.{selectsSeq, seqNumber}
 use Rattle.host_records.specs.declared.record.StatsRecord.{StatsRecord}
 use Rattle.host_records.specs.declared.record.ControllerRecord.{ControllerRecord}
@@ -151,6 +152,33 @@ withCount n g = withStats
     })
     g
 
+-- a host's record with another value in the register of a number; 9 is none
+abbrev pub withRegister : ℕ → ℕ → ControllerRecord → ControllerRecord
+withRegister n v g = record {
+  stats = g .stats;
+  «register_select_byte» = g .«register_select_byte»;
+  «register_selected» = g .«register_selected»;
+  «set_reset» = pick (eqb n 0) v (g .«set_reset»);
+  «enable_set_reset» = pick (eqb n 1) v (g .«enable_set_reset»);
+  «color_compare» = pick (eqb n 2) v (g .«color_compare»);
+  «data_rotate» = pick (eqb n 3) v (g .«data_rotate»);
+  «read_map_select» = pick (eqb n 4) v (g .«read_map_select»);
+  mode = pick (eqb n 5) v (g .mode);
+  miscellaneous = pick (eqb n 6) v (g .miscellaneous);
+  «color_dont_care» = pick (eqb n 7) v (g .«color_dont_care»);
+  bitmask = pick (eqb n 8) v (g .bitmask);
+  latches = g .latches;
+  spare = g .spare;
+}
+
+-- the registers 0 to 7 of a host's record
+abbrev pub firstEight : ControllerRecord → List ℕ
+firstEight g = g .«set_reset» ∷ g .«enable_set_reset» ∷ g .«color_compare» ∷ g .«data_rotate» ∷ g .«read_map_select» ∷ g .mode ∷ g .miscellaneous ∷ g .«color_dont_care» ∷ []
+
+-- the register of a number; any past them is the bit mask
+abbrev pub registerAt : ℕ → ControllerRecord → ℕ
+registerAt n g = getD (firstEight g) n (g .bitmask)
+
 -- the counter that an access raises, by its answer's number: its own where it is accepted, that of the refused where it is refused with 2 or 3
 abbrev pub counterOf : ℕ → ℕ → ℕ
 counterOf zero own = own
@@ -196,3 +224,11 @@ leftBy (suc n) new old = old
 -- the machine's outcome as a host is left with it: a refusal leaves the host's record as it was handed in
 abbrev pub leftTo : {S T : Type 0} → (S → T) → Outcome S → T → Outcome T
 leftTo f o old = outcome (o .answer) (leftBy (o .answer .number) (f (o .next)) old)
+
+-- the register that a data write stores, by its answer's number: the selected one where it is accepted, none where it is refused
+abbrev pub dataRegister : ℕ → ControllerRecord → ℕ
+dataRegister n g = leftBy n (g .«register_selected») 9
+
+-- its value: what that register keeps of the byte, 0 where none is stored
+abbrev pub dataValue : ℕ → ControllerRecord → ℕ → ℕ
+dataValue n g x = leftBy n (keeps (controllerOf g .registers .«register_selected») x) 0

@@ -2,7 +2,7 @@
 ghost use mathlib.Core.Path.{_≡_};
 ghost use Rattle.machine.specs.Answers.{said, one, outcome, doneSaid, flagSaid};
 ghost use Rattle.machine.specs.Step.{lifted};
-ghost use Rattle.host_records.specs.Records.{counterOf, controllerRecordOf, sequencerRecordOf, leftTo};
+ghost use Rattle.host_records.specs.Records.{counterOf, registerAt, controllerRecordOf, sequencerRecordOf, leftTo};
 ghost use Rattle.answers.specs.Answers.{answerSaid};
 use crate::record::ControllerRecord;
 use crate::record::SequencerRecord;
@@ -47,6 +47,13 @@ pub struct WriteAnswer {
     pub counter: u8,
 }
 
+// A data write's answer, the number of the register that is stored, 9 where none is, and its new value.
+pub struct DataAnswer {
+    pub answer: Answer,
+    pub register: u8,
+    pub value: u8,
+}
+
 pub fn unknown_sequencer(seq: SequencerRecord) -> SequencerAnswer
     ensures { λ r. ⌜ outcome (answerSaid (r .answer)) (r .seq) ≡ outcome (said 6 (one 0)) seq ⌝ }
 {
@@ -73,6 +80,23 @@ pub fn counter_of(number: u8, own: u8) -> u8
         0 => own,
         2 | 3 => 6,
         _ => 7,
+    }
+}
+
+// The register of a number; any past 7 is the bit mask.
+pub fn register_of(gc: ControllerRecord, number: u8) -> u8
+    ensures { λ r. ⌜ r ≡ registerAt number gc ⌝ }
+{
+    match number {
+        0 => gc.set_reset,
+        1 => gc.enable_set_reset,
+        2 => gc.color_compare,
+        3 => gc.data_rotate,
+        4 => gc.read_map_select,
+        5 => gc.mode,
+        6 => gc.miscellaneous,
+        7 => gc.color_dont_care,
+        _ => gc.bitmask,
     }
 }
 
