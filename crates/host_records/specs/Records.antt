@@ -100,29 +100,10 @@ controllerRecordOf x g = record {
   spare = x;
 }
 
--- a host's record with other counters
-abbrev pub withStats : StatsRecord → ControllerRecord → ControllerRecord
-withStats c g = record {
+-- a host's record with other counters and other latches
+abbrev pub withMoved : StatsRecord → List ℕ → ControllerRecord → ControllerRecord
+withMoved c l g = record {
   stats = c;
-  «register_select_byte» = g .«register_select_byte»;
-  «register_selected» = g .«register_selected»;
-  «set_reset» = g .«set_reset»;
-  «enable_set_reset» = g .«enable_set_reset»;
-  «color_compare» = g .«color_compare»;
-  «data_rotate» = g .«data_rotate»;
-  «read_map_select» = g .«read_map_select»;
-  mode = g .mode;
-  miscellaneous = g .miscellaneous;
-  «color_dont_care» = g .«color_dont_care»;
-  bitmask = g .bitmask;
-  latches = g .latches;
-  spare = g .spare;
-}
-
--- a host's record with other latches
-abbrev pub withLatches : List ℕ → ControllerRecord → ControllerRecord
-withLatches l g = record {
-  stats = g .stats;
   «register_select_byte» = g .«register_select_byte»;
   «register_selected» = g .«register_selected»;
   «set_reset» = g .«set_reset»;
@@ -137,6 +118,14 @@ withLatches l g = record {
   latches = l;
   spare = g .spare;
 }
+
+-- with other counters alone
+abbrev pub withStats : StatsRecord → ControllerRecord → ControllerRecord
+withStats c g = withMoved c (g .latches) g
+
+-- with other latches alone
+abbrev pub withLatches : List ℕ → ControllerRecord → ControllerRecord
+withLatches l g = withMoved (g .stats) l g
 
 -- a host's record with one more in the counter of a number; 7 is none
 abbrev pub withCount : ℕ → ControllerRecord → ControllerRecord
