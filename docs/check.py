@@ -294,7 +294,8 @@ def compared(short_run):
 def check_cost():
     """What COST.md says was reached is what its table has."""
     text = read("docs/COST.md")
-    table, aims = text.split("## Beside the aims")
+    table, rest = text.split("## Beside the aims")
+    aims = rest.split("\n## ")[0]
     ratios = {row[0]: row[3] for row in (re.split(r" *\| *", line.strip("| ")) for line in table.splitlines() if line.startswith("|")) if len(row) > 3}
     for name, reached in re.findall(r"^\| ([^|]+?) \| [^|]+ \| ([\d.]+(?: to [\d.]+)?) \|", aims, re.M):
         modes = re.match(r"mode ([\d, ]+) write$", name)

@@ -257,10 +257,24 @@ pub fn data_of(gc: ControllerRecord, byte: u8) -> DataAnswer
             value: 0,
         };
     }
+    let next = w.gc;
+    let register = gc.register_selected;
+    let value = register_of(
+        register,
+        next.set_reset,
+        next.enable_set_reset,
+        next.color_compare,
+        next.data_rotate,
+        next.read_map_select,
+        next.mode,
+        next.miscellaneous,
+        next.color_dont_care,
+        next.bitmask,
+    );
     DataAnswer {
         answer,
-        register: gc.register_selected,
-        value: register_of(w.gc, gc.register_selected),
+        register,
+        value,
     }
 }
 

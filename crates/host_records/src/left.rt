@@ -1,8 +1,10 @@
 // An answer with what a call leaves of a host's record, the whole or what moved, and refusal 6 with the record as it was handed in.
 ghost use mathlib.Core.Path.{_≡_};
+ghost use mathlib.Core.List.{[], _∷_};
+ghost use lib.ListN.{getD};
 ghost use Rattle.machine.specs.Answers.{said, one, outcome, doneSaid, flagSaid};
 ghost use Rattle.machine.specs.Step.{lifted};
-ghost use Rattle.host_records.specs.Records.{counterOf, registerAt, controllerRecordOf, sequencerRecordOf, leftTo};
+ghost use Rattle.host_records.specs.Records.{counterOf, controllerRecordOf, sequencerRecordOf, leftTo};
 ghost use Rattle.answers.specs.Answers.{answerSaid};
 use crate::record::ControllerRecord;
 use crate::record::SequencerRecord;
@@ -83,20 +85,31 @@ pub fn counter_of(number: u8, own: u8) -> u8
     }
 }
 
-// The register of a number; any past 7 is the bit mask.
-pub fn register_of(gc: ControllerRecord, number: u8) -> u8
-    ensures { λ r. ⌜ r ≡ registerAt number gc ⌝ }
+// The register of a number, of the nine handed in; any past 7 is the bit mask. Handed a record, the compiler would lay it out in memory to look at one byte.
+pub fn register_of(
+    number: u8,
+    set_reset: u8,
+    enable_set_reset: u8,
+    color_compare: u8,
+    data_rotate: u8,
+    read_map_select: u8,
+    mode: u8,
+    miscellaneous: u8,
+    color_dont_care: u8,
+    bitmask: u8,
+) -> u8
+    ensures { λ r. ⌜ r ≡ getD («set_reset» ∷ «enable_set_reset» ∷ «color_compare» ∷ «data_rotate» ∷ «read_map_select» ∷ mode ∷ miscellaneous ∷ «color_dont_care» ∷ []) number bitmask ⌝ }
 {
     match number {
-        0 => gc.set_reset,
-        1 => gc.enable_set_reset,
-        2 => gc.color_compare,
-        3 => gc.data_rotate,
-        4 => gc.read_map_select,
-        5 => gc.mode,
-        6 => gc.miscellaneous,
-        7 => gc.color_dont_care,
-        _ => gc.bitmask,
+        0 => set_reset,
+        1 => enable_set_reset,
+        2 => color_compare,
+        3 => data_rotate,
+        4 => read_map_select,
+        5 => mode,
+        6 => miscellaneous,
+        7 => color_dont_care,
+        _ => bitmask,
     }
 }
 

@@ -2,9 +2,9 @@
 use Prim.Native.Nat.{ℕ, _≤_}
 use native.Mathlib.Omega.{arith}
 use mathlib.Core.Path.{_≡_, sym}
-use lib.ListN.{List·getD-eq-default}
+use mathlib.Core.List.{[], _∷_}
+use lib.ListN.{getD, List·getD-eq-default}
 use borrow.Author.Needs.{needs}
-use Rattle.host_records.specs.Records.{firstEight}
 use Rattle.host_records.proofs.left.register_of.Statement.{statement}
 use Rattle.host_records.proofs.left.register_of.Tie as tie
 
@@ -36,13 +36,17 @@ returns-8 c = search needs
 four : (n : ℕ) → (((Unit {0} × (n ≡ 0 → ⊥)) × (n ≡ 1 → ⊥)) × (n ≡ 2 → ⊥)) × (n ≡ 3 → ⊥) → 4 ≤ n
 four n h = omega (arith, h .1, h .0 .1, h .0 .0 .1, h .0 .0 .0 .1)
 
+-- past the eight stands what is handed in for the rest
+past : (n a b c d e f g h i : ℕ) → 8 ≤ n → i ≡ getD (a ∷ b ∷ c ∷ d ∷ e ∷ f ∷ g ∷ h ∷ []) n i
+past n a b c d e f g h i k = sym (List·getD-eq-default (a ∷ b ∷ c ∷ d ∷ e ∷ f ∷ g ∷ h ∷ []) i k)
+
 returns-9 : tie.Need-returns-9
 returns-9 c =
     let h = c .match .rest in
     let n = c .before .args .number in
     let l : 4 ≤ n = four n (h .0 .0 .0 .0) in
     let k : 8 ≤ n = omega (arith, h .1, h .0 .1, h .0 .0 .1, h .0 .0 .0 .1) in
-    sym (List·getD-eq-default (firstEight (c .before .args .gc)) (c .before .args .gc .bitmask) k)
+    past n _ _ _ _ _ _ _ _ _ k
 
 pub register-of-spec : {M : Type 1} → statement M
 register-of-spec =
