@@ -30,7 +30,7 @@ fn set_reset(registers: GraphicsRegisters, data: u8, plane: u8) -> u8
     data
 }
 
-// The Set/Reset step of each plane. Most programs leave Enable at 0: then every plane has the data, and no plane's bit is looked at.
+// The Set/Reset step of each plane. Where Enable is 0, as at the start, every plane has the data, and no plane's bit is looked at.
 fn set_resets(registers: GraphicsRegisters, data: u8) -> [u8; 4]
     ensures { λ r. ⌜ r ≡ four (λ p. pick (isOne (bit p (registers .«enable_set_reset»))) (byteOf (λ i. bit p (registers .«set_reset»))) «data») ⌝ }
 {
