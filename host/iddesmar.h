@@ -171,7 +171,7 @@ typedef struct iddesmar_memory {
 } iddesmar_memory;
 #define IDDESMAR_ALL(m) (m)->planes[0], (m)->n, (m)->planes[1], (m)->n, (m)->planes[2], (m)->n, (m)->planes[3], (m)->n, (m)->picture, 8 * (m)->n
 
-/* In the archive these seven go by another name. Until 0.7.0 they took a record by value that they now take behind a pointer: a program compiled against such a header asks for a name that is
+/* In the archive these seven go by another name. Up to 0.7.0 they took a record by value that they now take behind a pointer: a program compiled against such a header asks for a name that is
  * not there, and is refused when it is linked, instead of handing over a record where a pointer is expected. */
 #define iddesmar_gc_cpu_read_u8 iddesmar_gc_cpu_read_u8_2
 #define iddesmar_gc_cpu_write_u8 iddesmar_gc_cpu_write_u8_2
