@@ -1,4 +1,6 @@
 // The machine's answers in numbers, for whoever hands them on: a host, a tape, a list. 0 or a refusal's number, and a value beside it. No call is performed here.
+#![tactic(auto)]
+
 mod narrow;
 mod orders;
 mod wide;

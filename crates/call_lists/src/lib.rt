@@ -1,4 +1,6 @@
 // Runs a list of calls through the port and prints a line for each. Every program of lists runs this very engine.
+#![tactic(auto)]
+
 ghost use Rattle.std.specs.Prelude.{◌≤◌};
 
 mod reading;

@@ -1,6 +1,8 @@
 // What a Rattle caller pays for a call of `graphics_controller`, by value and without the host's layer: bench/run counts the instructions of a row's turns.
 // Each of the three calls stands at two places, before the turns and in them, so that the compiler leaves it out of line; in the host's archive each has one caller and is inlined.
 // The page is set before the turns and clear in them, where no access looks at it: with one value at both places the compiler would leave its test out.
+#![tactic(auto)]
+
 mod rows;
 
 use graphics_controller::{cpu_read_u8, cpu_write_u8, show_pixels};

@@ -1,4 +1,6 @@
 // What the code reads off the types: the fields of kept bytes, and a refusal's number.
+#![tactic(auto)]
+
 pub mod gc;
 mod refusal;
 pub mod seq;

@@ -1,4 +1,6 @@
 // The way from an address to a plane offset, on the record alone: the call, answered with no memory at hand.
+#![tactic(auto)]
+
 ghost use Rattle.std.specs.Prelude.{◌≡◌};
 ghost use Rattle.machine.specs.Answers.{outcome, mapped_said};
 ghost use Rattle.machine.specs.Calls.{gc_map_address};

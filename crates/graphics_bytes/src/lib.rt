@@ -1,4 +1,6 @@
 // The byte that a write hands to each plane: the byte rotated, Set/Reset and the logic step, by the write mode.
+#![tactic(auto)]
+
 mod logic;
 
 ghost use Rattle.std.specs.Prelude.{◌≡◌, ◌<◌, ◌≤◌};

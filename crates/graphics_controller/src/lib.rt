@@ -1,4 +1,6 @@
 // The graphics controller: the processor's accesses and the shows, and what has no memory: its registers (`graphics_registers`) and `map_address` (`graphics_address`).
+#![tactic(auto)]
+
 mod access;
 mod show;
 

@@ -1,4 +1,6 @@
 // What an access works out without memory, beside the bytes of a write (`graphics_bytes`): the planes that it goes to, the compared colours, its counter.
+#![tactic(auto)]
+
 mod compare;
 mod count;
 mod select;

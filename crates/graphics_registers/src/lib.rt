@@ -1,4 +1,6 @@
 // The controller without its memory: its ports, and the fields that are asked for. The record stands in `machine_types`.
+#![tactic(auto)]
+
 mod registers;
 
 pub use registers::{

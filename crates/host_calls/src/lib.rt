@@ -1,4 +1,6 @@
 // The calls that a host makes through a reference to a record, over its records and by value: the library puts back what they leave.
+#![tactic(auto)]
+
 ghost use Rattle.std.specs.Prelude.{◌≡◌, []};
 ghost use Rattle.machine.specs.Memory.{before, after};
 ghost use Rattle.machine.specs.Answers.{one, part, changes, shown, no_pixels, outcome};

@@ -1,4 +1,6 @@
 // The types of the port: places, answers, the two records with their start states. What every call does to them is said in `machine`.
+#![tactic(auto)]
+
 mod answer;
 mod gc;
 mod place;

@@ -1,4 +1,6 @@
 // The refusals that a record and memory decide together: of an address that is accessed (2 and 3), of a direct call by plane (6, 1, 4, 3), of the controller's shows (9, and 5 by the shift mode).
+#![tactic(auto)]
+
 mod address;
 mod direct;
 mod show;

@@ -1,4 +1,6 @@
 // Refusals 1, 4, 3 and 5: the lengths of planes and picture, and what a call names in them.
+#![tactic(auto)]
+
 ghost use Rattle.std.specs.Prelude.{◌≡◌, nat_lt};
 ghost use Rattle.machine.specs.Memory.{size, sound};
 ghost use Rattle.machine.specs.Answers.{done_said, refusal_number};

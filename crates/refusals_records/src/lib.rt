@@ -1,4 +1,6 @@
 // Refusal 6: whether each register of a record holds a value that it can hold.
+#![tactic(auto)]
+
 ghost use Rattle.std.specs.Prelude.{◌≡◌};
 ghost use Rattle.machine.specs.Graphics.{fits_gc};
 ghost use Rattle.machine.specs.Sequencer.{fits_seq};

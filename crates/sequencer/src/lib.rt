@@ -1,4 +1,6 @@
 // The sequencer: its direct stores on the lent memory, its direct reads (`sequencer_reads`), and its registers, which have no memory (`sequencer_registers`).
+#![tactic(auto)]
+
 mod direct;
 
 pub use direct::{plane_and, plane_or, plane_set};

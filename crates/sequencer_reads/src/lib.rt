@@ -1,4 +1,6 @@
 // The sequencer's direct calls that only read memory, the offset taken as it stands, `gc_read_u8` excepted.
+#![tactic(auto)]
+
 ghost use Rattle.std.specs.Prelude.{◌≡◌};
 ghost use Rattle.machine.specs.Memory.{before};
 ghost use Rattle.machine.specs.Answers.{outcome, byte_said, pixel_said, part_said};

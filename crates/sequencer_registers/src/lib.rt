@@ -1,4 +1,6 @@
 // The sequencer without its memory: its ports and its clock. The record stands in `machine_types`.
+#![tactic(auto)]
+
 mod registers;
 
 pub use registers::{

@@ -1,4 +1,6 @@
 // Many short tapes: standard input has each as its length, one byte, and its bytes; after each tape's lines comes a line '='.
+#![tactic(auto)]
+
 fn main() {
     let mut input = [0u8; 4096];
     let count = io::read_full(libc::STDIN_FILENO, &mut input);

@@ -1,4 +1,6 @@
 // What a tape does: specs/ says it, over the types of its answers, which stand here. Nothing is performed.
+#![tactic(auto)]
+
 mod ran;
 mod told;
 

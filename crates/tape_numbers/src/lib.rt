@@ -1,4 +1,6 @@
 // A tape's numbers, read from a slice: groups of seven bits, low group first, the top bit set when more follow.
+#![tactic(auto)]
+
 ghost use Rattle.std.specs.Prelude.{◌≡◌, drop};
 ghost use Rattle.tape_numbers.specs.Numbers.{number_of};
 

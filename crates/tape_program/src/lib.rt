@@ -1,5 +1,6 @@
 // The program of document 01 as two functions, so that each program that tries a tape runs the very same ones: what is read goes to
 // tape_reader's proved run, and its lines are written.
+#![tactic(auto)]
 
 // Reads the first 16,384 bytes of standard input as a tape, and plays it.
 pub fn play() {

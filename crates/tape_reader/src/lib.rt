@@ -1,4 +1,6 @@
 // The tape: a whole tape run, from any state or from the program's start, its lines written as text.
+#![tactic(auto)]
+
 mod lines;
 mod program;
 mod text;

@@ -1,4 +1,5 @@
 // The video memory of vram.rs: its stores, in that file's order, and its reads (`vram_reads`). Four lent planes and a lent picture, all five handed to each call.
+#![tactic(auto)]
 
 ghost use Rattle.std.specs.Prelude.{◌≡◌};
 ghost use Rattle.machine.specs.Memory.{before, after};

@@ -1,4 +1,5 @@
 // The calls of vram.rs that only read, in that file's order: four lent planes and a lent picture, all five handed to each call.
+#![tactic(auto)]
 
 ghost use Rattle.std.specs.Prelude.{◌≡◌};
 ghost use Rattle.machine.specs.Memory.{before};
