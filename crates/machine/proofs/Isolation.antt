@@ -56,12 +56,12 @@ module _ {A : Type 0} {R : A → A → Type 0} where
   both-drop : {l u : List A} (n : ℕ) → Both R l u → Both R (drop n l) (drop n u)
   both-drop zero h = h
   both-drop (suc n) none = none
-  both-drop (suc n) (more r h) = both-drop n h
+  both-drop (suc n) (more {l = l} {u = u} r h) = both-drop {l = l} {u = u} n h
 
   both-take : {l u : List A} (n : ℕ) → Both R l u → Both R (take n l) (take n u)
   both-take zero h = none
   both-take (suc n) none = none
-  both-take (suc n) (more r h) = more r (both-take n h)
+  both-take (suc n) (more {l = l} {u = u} r h) = more r (both-take {l = l} {u = u} n h)
 
   both_at : {l u : List A} (i : ℕ) (d : A) → R d d → Both R l u → R (get_or l i d) (get_or u i d)
   both_at i d r none = r
