@@ -7,7 +7,7 @@ use machine_types::{ByteAnswer, DoneAnswer, FlagAnswer, Refusal};
 
 // A byte, a mark, an enum's place in its order; 0 where a call hands nothing back.
 #[repr(C)]
-#[derive(Drop)]
+#[derive(Clone, Copy)]
 pub struct Answer {
     pub number: u8,
     pub value: u8,

@@ -7,7 +7,7 @@ use machine_types::{ClockAnswer, DoneAnswer, MappedAnswer, Refusal, ShownPixels,
 
 // The character clock.
 #[repr(C)]
-#[derive(Drop)]
+#[derive(Clone, Copy)]
 pub struct Clock {
     pub clock: u32,
     pub number: u8,
@@ -15,7 +15,7 @@ pub struct Clock {
 
 // Where an address leads: the offset, and bit 0 of the address.
 #[repr(C)]
-#[derive(Drop)]
+#[derive(Clone, Copy)]
 pub struct Mapped {
     pub offset: usize,
     pub number: u8,
@@ -24,7 +24,7 @@ pub struct Mapped {
 
 // The eight pixels of a show by value, of the older one too, since a part of a lent slice cannot cross the boundary; eight zeros where refused.
 #[repr(C)]
-#[derive(Drop)]
+#[derive(Clone, Copy)]
 pub struct Shown {
     pub pixels: [u8; 8],
     pub number: u8,
@@ -32,7 +32,7 @@ pub struct Shown {
 
 // How many bits of each plane's byte a store changed; four zeros where refused.
 #[repr(C)]
-#[derive(Drop)]
+#[derive(Clone, Copy)]
 pub struct Stored {
     pub changed: [u8; 4],
     pub number: u8,

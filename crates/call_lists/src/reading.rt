@@ -2,7 +2,7 @@
 use libc::STDIN_FILENO;
 use list_lines::line::{Call, Line};
 
-#[derive(Drop)]
+#[derive(Clone, Copy)]
 pub struct Reading {
     pub line: Line,
     // the place of the buffer's next byte, and how many it has

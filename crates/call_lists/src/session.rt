@@ -7,7 +7,7 @@ use list_lines::said::{GraphicsLeft, Said};
 use list_lines::{print, said};
 use machine_types::{GraphicsController, Sequencer, Shape};
 
-#[derive(Drop)]
+#[derive(Clone, Copy)]
 pub struct Session {
     pub gc: GraphicsController,
     pub seq: Sequencer,

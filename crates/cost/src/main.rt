@@ -68,7 +68,7 @@ fn fill(p0: &mut [u8], p1: &mut [u8], p2: &mut [u8], p3: &mut [u8], picture: &mu
 }
 
 // Where the turns start: the controller, and the sum so far.
-#[derive(Drop)]
+#[derive(Clone, Copy)]
 struct Start {
     gc: GraphicsController,
     sum: u64,

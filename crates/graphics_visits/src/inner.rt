@@ -20,7 +20,7 @@ use vram_changes::inner::unchanged;
 use vram_planes::PlaneStore;
 
 // Where a write goes: the planes that it stores, as four bits, and the offset that it stores at.
-#[derive(Drop)]
+#[derive(Clone, Copy)]
 struct Target {
     planes: u8,
     place: usize,

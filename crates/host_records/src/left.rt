@@ -11,21 +11,21 @@ use machine_types::{DoneAnswer, FlagAnswer, GraphicsDone, SequencerDone, Sequenc
 
 // An answer and the sequencer's record as it is left.
 #[repr(C)]
-#[derive(Drop)]
+#[derive(Clone, Copy)]
 pub struct SequencerAnswer {
     pub answer: Answer,
     pub seq: SequencerRecord,
 }
 
 // An answer and the controller's record as it is left.
-#[derive(Drop)]
+#[derive(Clone, Copy)]
 pub struct ControllerAnswer {
     pub answer: Answer,
     pub gc: ControllerRecord,
 }
 
 // A read's answer, the latches as they are left, and the number of the counter that goes up: 7 is none.
-#[derive(Drop)]
+#[derive(Clone, Copy)]
 pub struct ReadAnswer {
     pub answer: Answer,
     pub latches: [u8; 4],
@@ -33,14 +33,14 @@ pub struct ReadAnswer {
 }
 
 // A write's answer and the number of the counter that goes up.
-#[derive(Drop)]
+#[derive(Clone, Copy)]
 pub struct WriteAnswer {
     pub answer: Stored,
     pub counter: u8,
 }
 
 // A data write's answer, the number of the register that is stored, 9 where none is, and its new value.
-#[derive(Drop)]
+#[derive(Clone, Copy)]
 pub struct DataAnswer {
     pub answer: Answer,
     pub register: u8,

@@ -8,7 +8,7 @@ use machine_types::{
 
 // The counters.
 #[repr(C)]
-#[derive(Drop)]
+#[derive(Clone, Copy)]
 pub struct StatsRecord {
     pub mode_0_writes: u32,
     pub mode_1_writes: u32,
@@ -20,7 +20,7 @@ pub struct StatsRecord {
 }
 
 #[repr(C)]
-#[derive(Drop)]
+#[derive(Clone, Copy)]
 pub struct ControllerRecord {
     pub stats: StatsRecord,
     pub register_select_byte: u8,
@@ -40,7 +40,7 @@ pub struct ControllerRecord {
 }
 
 #[repr(C)]
-#[derive(Drop)]
+#[derive(Clone, Copy)]
 pub struct SequencerRecord {
     pub address_byte: u8,
     pub register_selected: u8,

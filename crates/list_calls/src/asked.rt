@@ -2,7 +2,7 @@
 use list_lines::line::{Call, low_byte};
 use machine_types::PlaneOffset;
 
-#[derive(Drop)]
+#[derive(Clone, Copy)]
 pub struct Asked {
     // of the call in its list, from 1 on
     pub number: u64,

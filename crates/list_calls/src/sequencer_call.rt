@@ -4,7 +4,7 @@ use list_lines::said;
 use list_lines::said::Said;
 use machine_types::{Sequencer, SequencerDone};
 
-#[derive(Drop)]
+#[derive(Clone, Copy)]
 pub struct SequencerLeft {
     pub seq: Sequencer,
     pub said: Said,

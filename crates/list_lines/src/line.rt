@@ -2,7 +2,7 @@
 use std::num::wrapping_add_usize;
 
 // An operation's number and its arguments; those that it has not are 0.
-#[derive(Drop)]
+#[derive(Clone, Copy)]
 pub struct Call {
     pub operation: usize,
     pub first: usize,
@@ -11,7 +11,7 @@ pub struct Call {
     pub fourth: usize,
 }
 
-#[derive(Drop)]
+#[derive(Clone, Copy)]
 pub struct Line {
     pub numbers: [usize; 5],
     // how many numbers are complete

@@ -4,7 +4,7 @@ use answers::{Answer, Clock, Mapped, Shown, Stored};
 use machine_types::GraphicsController;
 
 // The answer's number, and what it hands back.
-#[derive(Drop)]
+#[derive(Clone, Copy)]
 pub enum Said {
     Value(u8, u64),
     // offset and a0
@@ -22,7 +22,7 @@ pub enum Said {
 }
 
 // The controller's record as a call leaves it, and what the call said.
-#[derive(Drop)]
+#[derive(Clone, Copy)]
 pub struct GraphicsLeft {
     pub gc: GraphicsController,
     pub said: Said,

@@ -4,7 +4,7 @@ use crate::place::PlaneOffset;
 use crate::seq::Sequencer;
 
 // The refusals, in the order of their numbers, 1 to 10.
-#[derive(Drop)]
+#[derive(Clone, Copy)]
 pub enum Refusal {
     // 1: plane lengths differ, n is 0 or above 65,536, or the picture isn't 8n long
     Memory,
@@ -29,14 +29,14 @@ pub enum Refusal {
 }
 
 // A byte that was read: a plane's, a register's, a pixel.
-#[derive(Drop)]
+#[derive(Clone, Copy)]
 pub enum ByteAnswer {
     Done(u8),
     Refused(Refusal),
 }
 
 // How many of the eight bits of each plane's byte a store changed.
-#[derive(Drop)]
+#[derive(Clone, Copy)]
 pub struct Changed {
     pub p0: u8,
     pub p1: u8,
@@ -45,91 +45,91 @@ pub struct Changed {
 }
 
 // A store into planes.
-#[derive(Drop)]
+#[derive(Clone, Copy)]
 pub enum StoreAnswer {
     Done(Changed),
     Refused(Refusal),
 }
 
 // Any other call that hands nothing back.
-#[derive(Drop)]
+#[derive(Clone, Copy)]
 pub enum DoneAnswer {
     Done,
     Refused(Refusal),
 }
 
 // A mark or a field that is set or clear.
-#[derive(Drop)]
+#[derive(Clone, Copy)]
 pub enum FlagAnswer {
     Done(bool),
     Refused(Refusal),
 }
 
 // The character clock.
-#[derive(Drop)]
+#[derive(Clone, Copy)]
 pub enum ClockAnswer {
     Done(u32),
     Refused(Refusal),
 }
 
-#[derive(Drop)]
+#[derive(Clone, Copy)]
 pub enum MapAnswer {
     Done(MemoryMap),
     Refused(Refusal),
 }
 
-#[derive(Drop)]
+#[derive(Clone, Copy)]
 pub enum OddEvenAnswer {
     Done(OddEvenModeComplement),
     Refused(Refusal),
 }
 
-#[derive(Drop)]
+#[derive(Clone, Copy)]
 pub enum ShiftAnswer {
     Done(ShiftMode),
     Refused(Refusal),
 }
 
 // Where an address leads: a plane offset, and a0, the address's bit 0.
-#[derive(Drop)]
+#[derive(Clone, Copy)]
 pub enum MappedAnswer {
     Done(PlaneOffset, bool),
     Refused(Refusal),
 }
 
 // An answer and the record as it is left.
-#[derive(Drop)]
+#[derive(Clone, Copy)]
 pub struct SequencerDone {
     pub answer: DoneAnswer,
     pub seq: Sequencer,
 }
 
-#[derive(Drop)]
+#[derive(Clone, Copy)]
 pub struct SequencerFlag {
     pub answer: FlagAnswer,
     pub seq: Sequencer,
 }
 
-#[derive(Drop)]
+#[derive(Clone, Copy)]
 pub struct GraphicsDone {
     pub answer: DoneAnswer,
     pub gc: GraphicsController,
 }
 
-#[derive(Drop)]
+#[derive(Clone, Copy)]
 pub struct CpuByte {
     pub answer: ByteAnswer,
     pub gc: GraphicsController,
 }
 
-#[derive(Drop)]
+#[derive(Clone, Copy)]
 pub struct CpuStore {
     pub answer: StoreAnswer,
     pub gc: GraphicsController,
 }
 
 // An answer and the eight pixels of a show, all 0 where it is refused.
-#[derive(Drop)]
+#[derive(Clone, Copy)]
 pub struct ShownPixels {
     pub answer: DoneAnswer,
     pub pixels: [u8; 8],

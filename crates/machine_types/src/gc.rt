@@ -3,7 +3,7 @@ ghost use Rattle.std.specs.Prelude.{◌≡◌};
 ghost use Rattle.machine_types.specs.Start.{fresh_gc};
 
 // The registers that the address register selects, in the order of their numbers.
-#[derive(Drop)]
+#[derive(Clone, Copy)]
 pub enum GraphicsRegister {
     SetReset,
     EnableSetReset,
@@ -16,13 +16,13 @@ pub enum GraphicsRegister {
     BitMask,
 }
 
-#[derive(Drop)]
+#[derive(Clone, Copy)]
 pub enum OddEvenModeComplement {
     Sequential,
     OddEven,
 }
 
-#[derive(Drop)]
+#[derive(Clone, Copy)]
 pub enum MemoryMap {
     A0000_128k,
     A0000_64K,
@@ -45,7 +45,7 @@ impl MemoryMap {
     pub const WINDOW_B8000_LAST: usize = 0xBFFFF;
 }
 
-#[derive(Drop)]
+#[derive(Clone, Copy)]
 pub enum LogicFunction {
     Unmodified,
     And,
@@ -53,7 +53,7 @@ pub enum LogicFunction {
     Xor,
 }
 
-#[derive(Drop)]
+#[derive(Clone, Copy)]
 pub enum WriteMode {
     Mode0,
     Mode1,
@@ -61,13 +61,13 @@ pub enum WriteMode {
     Mode3,
 }
 
-#[derive(Drop)]
+#[derive(Clone, Copy)]
 pub enum ReadMode {
     ReadSelectedPlane,
     ReadComparedPlanes,
 }
 
-#[derive(Drop)]
+#[derive(Clone, Copy)]
 pub enum ShiftMode {
     Standard,
     CGACompatible,
@@ -76,7 +76,7 @@ pub enum ShiftMode {
 }
 
 // What the ports reach: the address, the register that it selected, and each register's kept bits.
-#[derive(Drop)]
+#[derive(Clone, Copy)]
 pub struct GraphicsRegisters {
     pub register_select_byte: u8,
     pub register_selected: GraphicsRegister,
@@ -92,7 +92,7 @@ pub struct GraphicsRegisters {
 }
 
 // The processor's reads and writes: the accepted ones by mode, and those refused with 2 or 3. Each count goes back to 0 after 4,294,967,295.
-#[derive(Drop)]
+#[derive(Clone, Copy)]
 pub struct GraphicsControllerStats {
     pub mode_0_writes: u32,
     pub mode_1_writes: u32,
@@ -103,7 +103,7 @@ pub struct GraphicsControllerStats {
     pub refused_accesses: u32,
 }
 
-#[derive(Drop)]
+#[derive(Clone, Copy)]
 pub struct GraphicsController {
     pub registers: GraphicsRegisters,
     pub stats: GraphicsControllerStats,

@@ -1,9 +1,9 @@
 // Offsets and places: two counts that are never taken for one another.
 
 // A plane offset counts bytes of a plane.
-#[derive(Drop)]
+#[derive(Clone, Copy)]
 pub struct PlaneOffset(pub usize);
 
 // A pixel place counts pixels of the picture.
-#[derive(Drop)]
+#[derive(Clone, Copy)]
 pub struct PixelPlace(pub usize);

@@ -2,7 +2,7 @@
 ghost use Rattle.std.specs.Prelude.{◌≡◌};
 ghost use Rattle.machine_types.specs.Start.{fresh_seq};
 
-#[derive(Drop)]
+#[derive(Clone, Copy)]
 pub enum SequencerRegister {
     Reset,
     ClockingMode,
@@ -12,13 +12,13 @@ pub enum SequencerRegister {
     Invalid,
 }
 
-#[derive(Drop)]
+#[derive(Clone, Copy)]
 pub enum OddEvenMode {
     OddEven,
     Sequential,
 }
 
-#[derive(Drop)]
+#[derive(Clone, Copy)]
 pub struct Sequencer {
     pub address_byte: u8,
     pub register_selected: SequencerRegister,

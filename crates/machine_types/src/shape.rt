@@ -2,7 +2,7 @@
 ghost use Rattle.std.specs.Prelude.{◌≡◌};
 ghost use Rattle.machine_types.specs.Lengths.{shape_of};
 
-#[derive(Drop)]
+#[derive(Clone, Copy)]
 pub struct Shape {
     pub p0: usize,
     pub p1: usize,

@@ -13,7 +13,7 @@ use refusals_access::judge_direct;
 use sequencer_masks::inner;
 
 // How a read by plane takes its offset: as it stands, or where chain-four leads.
-#[derive(Drop)]
+#[derive(Clone, Copy)]
 enum PlaneRead {
     Cpu,
     Gc,

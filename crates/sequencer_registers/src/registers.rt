@@ -122,7 +122,7 @@ pub fn read_data(seq: Sequencer) -> ByteAnswer
 }
 
 // A clock divisor and a character clock.
-#[derive(Drop)]
+#[derive(Clone, Copy)]
 struct Clocks(u32, u32);
 
 // Clocking Mode: bit 0 clear is nine dots, bit 3 set halves the clock.

@@ -12,7 +12,7 @@ use tape_machine::{Told, of_answer, of_pixels, of_store};
 use tape_records::Command;
 
 // What was answered, and both records as they are left.
-#[derive(Drop)]
+#[derive(Clone, Copy)]
 pub struct Performed {
     pub told: Told,
     pub gc: GraphicsController,

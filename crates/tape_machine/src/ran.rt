@@ -2,7 +2,7 @@
 use machine_types::{DoneAnswer, GraphicsController, Sequencer};
 
 // Whether the lines had room, how many bytes were written, and both records as they are left.
-#[derive(Drop)]
+#[derive(Clone, Copy)]
 pub struct Ran {
     pub answer: DoneAnswer,
     pub written: usize,

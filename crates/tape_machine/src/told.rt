@@ -8,7 +8,7 @@ use answers::Answer;
 use machine_types::{Changed, ShiftMode, StoreAnswer};
 
 // The eight pixels of a show.
-#[derive(Drop)]
+#[derive(Clone, Copy)]
 pub struct Eight {
     pub a: u8,
     pub b: u8,
@@ -20,7 +20,7 @@ pub struct Eight {
     pub h: u8,
 }
 
-#[derive(Drop)]
+#[derive(Clone, Copy)]
 pub enum Handed {
     // A byte that was read; 0 where a call hands nothing back.
     Byte(u8),
@@ -30,7 +30,7 @@ pub enum Handed {
     Changes(Changed),
 }
 
-#[derive(Drop)]
+#[derive(Clone, Copy)]
 pub struct Told {
     pub number: u8,
     pub handed: Handed,

@@ -9,7 +9,7 @@ use tape_numbers::{Number, read_number};
 const LIMIT: u64 = 4294967296;
 
 // What a whole record asks for, in the order of the operations' numbers, 0 to 8.
-#[derive(Drop)]
+#[derive(Clone, Copy)]
 pub enum Command {
     Reset,
     GcAddress(u8),
@@ -33,27 +33,27 @@ pub enum Command {
 }
 
 // Why a record is not whole: the input ends inside it, a number is damaged, or one is out of range.
-#[derive(Drop)]
+#[derive(Clone, Copy)]
 pub enum Fault {
     Open,
     Damage,
     Range,
 }
 
-#[derive(Drop)]
+#[derive(Clone, Copy)]
 pub enum Operation {
     Unread,
     Was(u64),
 }
 
-#[derive(Drop)]
+#[derive(Clone, Copy)]
 pub enum Record {
     // The bytes that it took are counted from its start.
     Whole { command: Command, taken: usize },
     Broken { operation: Operation, fault: Fault },
 }
 
-#[derive(Drop)]
+#[derive(Clone, Copy)]
 pub enum Argument {
     Good { value: u64, taken: usize },
     Bad(Fault),

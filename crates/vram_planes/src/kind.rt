@@ -1,7 +1,7 @@
 // The three stores by plane.
 
 // What a store makes of the byte given and the plane's byte.
-#[derive(Drop)]
+#[derive(Clone, Copy)]
 pub enum PlaneStore {
     Set,
     And,
