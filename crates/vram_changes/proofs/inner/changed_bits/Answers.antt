@@ -5,19 +5,15 @@ use lib.Count.{ones, ones-le}
 use borrow.Author.Rules.{rules}
 use Rattle.bits.proofs.Bitwise.{and8, or8, xor8}
 use Rattle.vram_changes.proofs.Ones.{ones-changed}
-use Rattle.vram_changes.proofs.inner.changed_bits.Statement.{statement}
-use Rattle.vram_changes.proofs.inner.changed_bits.Tie as tie
+use Rattle.vram_changes.proofs.inner.changed_bits.Goals as goal
 
 -- a byte has at most eight ones, whichever byte it is
 ones_small : (x : ℕ) → x < 256 → ones x < 256
 ones_small x h = omega (arith, ones-le 8 x h)
 
 -- whichever operator made the byte: that it is the right one is said by `returns`
-cast-result : tie.Need-cast-result
-cast-result c = record { fits = ones_small _ (search (rules, and8, or8, xor8)) }
+pub overflow_cast-result : goal.overflow_cast-result
+overflow_cast-result c = record { fits = ones_small _ (search (rules, and8, or8, xor8)) }
 
-returns : tie.Need-returns
-returns c = ones-changed c.args.old c.args.new c.fits.old.fits c.fits.new.fits
-
-pub changed-bits-spec : {M : Type 1} → statement M
-changed-bits-spec = tie.close (tie.spec cast-result returns)
+pub returns : goal.returns
+returns c = ones-changed c.args.old c.args.new c.ranges.old.fits c.ranges.new.fits
