@@ -2,7 +2,7 @@
 ghost use Rattle.std.specs.Prelude.{◌≡◌, [], ◌∷◌, ◌+◌, ◌*◌, ◌^◌, ◌<◌, ◌≤◌, length, take, drop};
 ghost use Rattle.std.specs.Int.Bits.{bit_and};
 ghost use Rattle.bits.specs.Bit.{bit, field, of_bits};
-ghost use Rattle.machine.specs.Memory.{lent, before, after, Shaped};
+ghost use Rattle.machine.specs.Memory.{mem, Shaped};
 ghost use Rattle.machine.specs.Deeds.{remade};
 ghost use Rattle.vram_pixels.specs.Word.{of_bytes, turned, came_from};
 
@@ -72,8 +72,8 @@ fn byte_of(word: u64, j: u8) -> u8
 
 // An offset's eight pixels remade: pixel i has bit 7 - i of each plane, and is byte 7 - i of the turned word.
 pub fn remake(p0: &[u8], p1: &[u8], p2: &[u8], p3: &[u8], picture: &mut [u8], at: usize)
-    requires { Shaped (lent p0 p1 p2 p3 picture) × (at < length p0.now) }
-    ensures { after p0 p1 p2 p3 picture ≡ remade at (before p0 p1 p2 p3 picture) }
+    requires { Shaped (mem p0.now p1.now p2.now p3.now picture.old) × (at < length p0.now) }
+    ensures { mem p0.now p1.now p2.now p3.now picture.new ≡ remade at (mem p0.now p1.now p2.now p3.now picture.old) }
 {
     let b0 = p0[at];
     let b1 = p1[at];

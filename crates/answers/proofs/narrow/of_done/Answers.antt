@@ -1,0 +1,10 @@
+-- `of_done` tells the number: from `done` and `refused`.
+use Rattle.answers.proofs.narrow.of_done.Goals as goal
+
+pub returns-in-Done : goal.returns-in-Done
+returns-in-Done c =
+    rw (c.done.ensures, c.in-Done.is)
+
+pub returns-in-Refused : goal.returns-in-Refused
+returns-in-Refused c =
+    rw (c.refused.ensures, c.in-Refused.is)

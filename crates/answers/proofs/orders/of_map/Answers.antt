@@ -1,0 +1,10 @@
+-- `of_map` tells number and value: from `map_number`, `given` and `refused`.
+use Rattle.answers.proofs.orders.of_map.Goals as goal
+
+pub returns-in-Done : goal.returns-in-Done
+returns-in-Done c =
+    rw (c.given.ensures, c.in-Done.is, c.map_number.ensures)
+
+pub returns-in-Refused : goal.returns-in-Refused
+returns-in-Refused c =
+    rw (c.refused.ensures, c.in-Refused.is)

@@ -1,0 +1,10 @@
+-- `of_clock` tells number and clock: from `refusal_number`.
+use Rattle.answers.proofs.wide.of_clock.Goals as goal
+
+pub returns-in-Done : goal.returns-in-Done
+returns-in-Done c =
+    rw c.in-Done.is
+
+pub returns-in-Refused : goal.returns-in-Refused
+returns-in-Refused c =
+    rw (c.in-Refused.is, c.refusal_number.ensures)
