@@ -1,6 +1,6 @@
 // The processor's accesses, both records lent: a read and a write update the controller's where it stands, and the other three leave it alone.
 ghost use Rattle.std.specs.Prelude.{◌≡◌, []};
-ghost use Rattle.machine.specs.Memory.{before, after};
+ghost use Rattle.machine.specs.Memory.{mem};
 ghost use Rattle.machine.specs.Answers.{one, part, changes, shown, no_pixels, outcome};
 ghost use Rattle.machine.specs.Graphics.{shift_mode};
 ghost use Rattle.machine.specs.Calls.{cpu_read, cpu_peek, cpu_write, serialize, show_pixels};
@@ -25,8 +25,8 @@ pub extern "C" fn iddesmar_gc_cpu_read_u8_2(
     address: usize,
     page: u8,
 ) -> Answer
-    ensures { outcome (answer_said result) (held gc.new (before p0 p1 p2 p3 picture))
-        ≡ cpu_hosted gc.old seq.now (before p0 p1 p2 p3 picture) (one 0) (cpu_read address (is_set page)) }
+    ensures { outcome (answer_said result) (held gc.new (mem p0.now p1.now p2.now p3.now picture.now))
+        ≡ cpu_hosted gc.old seq.now (mem p0.now p1.now p2.now p3.now picture.now) (one 0) (cpu_read address (is_set page)) }
 {
     let w = read_of(*gc, *seq, p0, p1, p2, p3, picture, address, page);
     gc.latches = w.latches;
@@ -53,8 +53,8 @@ pub extern "C" fn iddesmar_gc_cpu_write_u8_2(
     page: u8,
     byte: u8,
 ) -> Stored
-    ensures { StoredAs result (held gc.new (after p0 p1 p2 p3 picture))
-        (cpu_hosted gc.old seq.now (before p0 p1 p2 p3 picture) (changes 0 0 0 0) (cpu_write address (is_set page) byte)) }
+    ensures { StoredAs result (held gc.new (mem p0.new p1.new p2.new p3.new picture.new))
+        (cpu_hosted gc.old seq.now (mem p0.old p1.old p2.old p3.old picture.old) (changes 0 0 0 0) (cpu_write address (is_set page) byte)) }
 {
     let w = write_of(*gc, *seq, p0, p1, p2, p3, picture, address, page, byte);
     // one counter goes up where it stands
@@ -82,8 +82,8 @@ pub extern "C" fn iddesmar_gc_cpu_peek_u8_2(
     address: usize,
     page: u8,
 ) -> Answer
-    ensures { outcome (answer_said result) (held gc.now (before p0 p1 p2 p3 picture))
-        ≡ cpu_hosted gc.now seq.now (before p0 p1 p2 p3 picture) (one 0) (cpu_peek address (is_set page)) }
+    ensures { outcome (answer_said result) (held gc.now (mem p0.now p1.now p2.now p3.now picture.now))
+        ≡ cpu_hosted gc.now seq.now (mem p0.now p1.now p2.now p3.now picture.now) (one 0) (cpu_peek address (is_set page)) }
 {
     peek_of(*gc, *seq, p0, p1, p2, p3, picture, address, page)
 }
@@ -100,7 +100,7 @@ pub extern "C" fn iddesmar_gc_serialize_2(
     picture: &[u8],
     offset: usize,
 ) -> Shown
-    ensures { result ≡ shown_of (cpu_hosted gc.now seq.now (before p0 p1 p2 p3 picture) (part []) (serialize offset)).answer }
+    ensures { result ≡ shown_of (cpu_hosted gc.now seq.now (mem p0.now p1.now p2.now p3.now picture.now) (part []) (serialize offset)).answer }
 {
     serialize_of(*gc, *seq, p0, p1, p2, p3, picture, offset)
 }
@@ -117,7 +117,7 @@ pub extern "C" fn iddesmar_gc_show_pixels_2(
     picture: &[u8],
     offset: usize,
 ) -> Shown
-    ensures { result ≡ pixels_shown (cpu_hosted gc.now seq.now (before p0 p1 p2 p3 picture)
+    ensures { result ≡ pixels_shown (cpu_hosted gc.now seq.now (mem p0.now p1.now p2.now p3.now picture.now)
         (shown (shift_mode (controller_of gc.now).registers) no_pixels) (show_pixels offset)).answer }
 {
     show_of(*gc, *seq, p0, p1, p2, p3, picture, offset)

@@ -1,6 +1,6 @@
 // The sequencer's own calls on memory, on its record by value.
 ghost use Rattle.std.specs.Prelude.{◌≡◌, []};
-ghost use Rattle.machine.specs.Memory.{before, after};
+ghost use Rattle.machine.specs.Memory.{mem};
 ghost use Rattle.machine.specs.Answers.{one, pixel, part, changes, outcome};
 ghost use Rattle.machine.specs.Calls.{seq_cpu_read_u8, seq_peek_u8, seq_gc_read_u8, seq_read_linear, seq_serialize_linear, seq_plane_set, seq_plane_and, seq_plane_or};
 ghost use Rattle.answers.specs.Answers.{answer_said, pixel_answer_said};
@@ -27,7 +27,8 @@ pub extern "C" fn iddesmar_seq_cpu_read_u8(
     offset: usize,
     a0: u8,
 ) -> Answer
-    ensures { outcome (answer_said result) (before p0 p1 p2 p3 picture) ≡ direct_hosted seq (before p0 p1 p2 p3 picture) (one 0) (seq_cpu_read_u8 plane offset (is_set a0)) }
+    ensures { outcome (answer_said result) (mem p0.now p1.now p2.now p3.now picture.now)
+        ≡ direct_hosted seq (mem p0.now p1.now p2.now p3.now picture.now) (one 0) (seq_cpu_read_u8 plane offset (is_set a0)) }
 {
     if !known_sequencer(seq) {
         return unknown();
@@ -51,7 +52,8 @@ pub extern "C" fn iddesmar_seq_peek_u8(
     offset: usize,
     a0: u8,
 ) -> Answer
-    ensures { outcome (answer_said result) (before p0 p1 p2 p3 picture) ≡ direct_hosted seq (before p0 p1 p2 p3 picture) (one 0) (seq_peek_u8 plane offset (is_set a0)) }
+    ensures { outcome (answer_said result) (mem p0.now p1.now p2.now p3.now picture.now)
+        ≡ direct_hosted seq (mem p0.now p1.now p2.now p3.now picture.now) (one 0) (seq_peek_u8 plane offset (is_set a0)) }
 {
     if !known_sequencer(seq) {
         return unknown();
@@ -75,7 +77,8 @@ pub extern "C" fn iddesmar_seq_gc_read_u8(
     offset: usize,
     a0: u8,
 ) -> Answer
-    ensures { outcome (answer_said result) (before p0 p1 p2 p3 picture) ≡ direct_hosted seq (before p0 p1 p2 p3 picture) (one 0) (seq_gc_read_u8 plane offset (is_set a0)) }
+    ensures { outcome (answer_said result) (mem p0.now p1.now p2.now p3.now picture.now)
+        ≡ direct_hosted seq (mem p0.now p1.now p2.now p3.now picture.now) (one 0) (seq_gc_read_u8 plane offset (is_set a0)) }
 {
     if !known_sequencer(seq) {
         return unknown();
@@ -97,7 +100,7 @@ pub extern "C" fn iddesmar_seq_read_linear(
     picture: &[u8],
     place: usize,
 ) -> Answer
-    ensures { outcome (pixel_answer_said result) (before p0 p1 p2 p3 picture) ≡ direct_hosted seq (before p0 p1 p2 p3 picture) (pixel 0) (seq_read_linear place) }
+    ensures { outcome (pixel_answer_said result) (mem p0.now p1.now p2.now p3.now picture.now) ≡ direct_hosted seq (mem p0.now p1.now p2.now p3.now picture.now) (pixel 0) (seq_read_linear place) }
 {
     if !known_sequencer(seq) {
         return unknown();
@@ -117,7 +120,7 @@ pub extern "C" fn iddesmar_seq_serialize_linear(
     picture: &[u8],
     offset: usize,
 ) -> Shown
-    ensures { result ≡ shown_of (direct_hosted seq (before p0 p1 p2 p3 picture) (part []) (seq_serialize_linear offset)).answer }
+    ensures { result ≡ shown_of (direct_hosted seq (mem p0.now p1.now p2.now p3.now picture.now) (part []) (seq_serialize_linear offset)).answer }
 {
     if !known_sequencer(seq) {
         return unknown_shown();
@@ -142,7 +145,7 @@ pub extern "C" fn iddesmar_seq_plane_set(
     a0: u8,
     byte: u8,
 ) -> Stored
-    ensures { StoredAs result (after p0 p1 p2 p3 picture) (direct_hosted seq (before p0 p1 p2 p3 picture) (changes 0 0 0 0) (seq_plane_set plane offset (is_set a0) byte)) }
+    ensures { StoredAs result (mem p0.new p1.new p2.new p3.new picture.new) (direct_hosted seq (mem p0.old p1.old p2.old p3.old picture.old) (changes 0 0 0 0) (seq_plane_set plane offset (is_set a0) byte)) }
 {
     if !known_sequencer(seq) {
         return unknown_stored();
@@ -167,7 +170,7 @@ pub extern "C" fn iddesmar_seq_plane_and(
     a0: u8,
     byte: u8,
 ) -> Stored
-    ensures { StoredAs result (after p0 p1 p2 p3 picture) (direct_hosted seq (before p0 p1 p2 p3 picture) (changes 0 0 0 0) (seq_plane_and plane offset (is_set a0) byte)) }
+    ensures { StoredAs result (mem p0.new p1.new p2.new p3.new picture.new) (direct_hosted seq (mem p0.old p1.old p2.old p3.old picture.old) (changes 0 0 0 0) (seq_plane_and plane offset (is_set a0) byte)) }
 {
     if !known_sequencer(seq) {
         return unknown_stored();
@@ -192,7 +195,7 @@ pub extern "C" fn iddesmar_seq_plane_or(
     a0: u8,
     byte: u8,
 ) -> Stored
-    ensures { StoredAs result (after p0 p1 p2 p3 picture) (direct_hosted seq (before p0 p1 p2 p3 picture) (changes 0 0 0 0) (seq_plane_or plane offset (is_set a0) byte)) }
+    ensures { StoredAs result (mem p0.new p1.new p2.new p3.new picture.new) (direct_hosted seq (mem p0.old p1.old p2.old p3.old picture.old) (changes 0 0 0 0) (seq_plane_or plane offset (is_set a0) byte)) }
 {
     if !known_sequencer(seq) {
         return unknown_stored();

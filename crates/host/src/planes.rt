@@ -1,6 +1,6 @@
 // The calls on memory alone, as vram.rs has them: no record is handed in.
 ghost use Rattle.std.specs.Prelude.{◌≡◌};
-ghost use Rattle.machine.specs.Memory.{before, after};
+ghost use Rattle.machine.specs.Memory.{mem};
 ghost use Rattle.machine.specs.Answers.{outcome};
 ghost use Rattle.machine.specs.Calls.{read_u8, peek_u8, read_glyph, read_linear, serialize_linear, write_u8, plane_set, plane_and, plane_or, deplane as remakes};
 ghost use Rattle.machine.specs.Step.{vram_step};
@@ -20,7 +20,7 @@ pub extern "C" fn iddesmar_vram_read_u8(
     plane: usize,
     offset: usize,
 ) -> Answer
-    ensures { outcome (answer_said result) (before p0 p1 p2 p3 picture) ≡ vram_step (before p0 p1 p2 p3 picture) (read_u8 plane offset) }
+    ensures { outcome (answer_said result) (mem p0.now p1.now p2.now p3.now picture.now) ≡ vram_step (mem p0.now p1.now p2.now p3.now picture.now) (read_u8 plane offset) }
 {
     let answer = vram::read_u8(p0, p1, p2, p3, picture, plane, PlaneOffset(offset));
     of_byte(answer)
@@ -36,7 +36,7 @@ pub extern "C" fn iddesmar_vram_peek_u8(
     plane: usize,
     offset: usize,
 ) -> Answer
-    ensures { outcome (answer_said result) (before p0 p1 p2 p3 picture) ≡ vram_step (before p0 p1 p2 p3 picture) (peek_u8 plane offset) }
+    ensures { outcome (answer_said result) (mem p0.now p1.now p2.now p3.now picture.now) ≡ vram_step (mem p0.now p1.now p2.now p3.now picture.now) (peek_u8 plane offset) }
 {
     let answer = vram::peek_u8(p0, p1, p2, p3, picture, plane, PlaneOffset(offset));
     of_byte(answer)
@@ -51,7 +51,7 @@ pub extern "C" fn iddesmar_vram_read_glyph(
     picture: &[u8],
     offset: usize,
 ) -> Answer
-    ensures { outcome (answer_said result) (before p0 p1 p2 p3 picture) ≡ vram_step (before p0 p1 p2 p3 picture) (read_glyph offset) }
+    ensures { outcome (answer_said result) (mem p0.now p1.now p2.now p3.now picture.now) ≡ vram_step (mem p0.now p1.now p2.now p3.now picture.now) (read_glyph offset) }
 {
     let answer = vram::read_glyph(p0, p1, p2, p3, picture, PlaneOffset(offset));
     of_byte(answer)
@@ -66,7 +66,7 @@ pub extern "C" fn iddesmar_vram_read_linear(
     picture: &[u8],
     place: usize,
 ) -> Answer
-    ensures { outcome (pixel_answer_said result) (before p0 p1 p2 p3 picture) ≡ vram_step (before p0 p1 p2 p3 picture) (read_linear place) }
+    ensures { outcome (pixel_answer_said result) (mem p0.now p1.now p2.now p3.now picture.now) ≡ vram_step (mem p0.now p1.now p2.now p3.now picture.now) (read_linear place) }
 {
     let answer = vram::read_linear(p0, p1, p2, p3, picture, PixelPlace(place));
     of_pixel(answer)
@@ -81,7 +81,7 @@ pub extern "C" fn iddesmar_vram_serialize_linear(
     picture: &[u8],
     offset: usize,
 ) -> Shown
-    ensures { result ≡ shown_of (vram_step (before p0 p1 p2 p3 picture) (serialize_linear offset)).answer }
+    ensures { result ≡ shown_of (vram_step (mem p0.now p1.now p2.now p3.now picture.now) (serialize_linear offset)).answer }
 {
     let mut number = 0u8;
     let part = vram::serialize_linear(p0, p1, p2, p3, picture, PlaneOffset(offset), &mut number);
@@ -99,7 +99,7 @@ pub extern "C" fn iddesmar_vram_write_u8(
     offset: usize,
     byte: u8,
 ) -> Stored
-    ensures { StoredAs result (after p0 p1 p2 p3 picture) (vram_step (before p0 p1 p2 p3 picture) (write_u8 plane offset byte)) }
+    ensures { StoredAs result (mem p0.new p1.new p2.new p3.new picture.new) (vram_step (mem p0.old p1.old p2.old p3.old picture.old) (write_u8 plane offset byte)) }
 {
     let answer = vram::write_u8(p0, p1, p2, p3, picture, plane, PlaneOffset(offset), byte);
     of_store(answer)
@@ -116,7 +116,7 @@ pub extern "C" fn iddesmar_vram_plane_set(
     offset: usize,
     byte: u8,
 ) -> Stored
-    ensures { StoredAs result (after p0 p1 p2 p3 picture) (vram_step (before p0 p1 p2 p3 picture) (plane_set plane offset byte)) }
+    ensures { StoredAs result (mem p0.new p1.new p2.new p3.new picture.new) (vram_step (mem p0.old p1.old p2.old p3.old picture.old) (plane_set plane offset byte)) }
 {
     let answer = vram::plane_set(p0, p1, p2, p3, picture, plane, PlaneOffset(offset), byte);
     of_store(answer)
@@ -133,7 +133,7 @@ pub extern "C" fn iddesmar_vram_plane_and(
     offset: usize,
     byte: u8,
 ) -> Stored
-    ensures { StoredAs result (after p0 p1 p2 p3 picture) (vram_step (before p0 p1 p2 p3 picture) (plane_and plane offset byte)) }
+    ensures { StoredAs result (mem p0.new p1.new p2.new p3.new picture.new) (vram_step (mem p0.old p1.old p2.old p3.old picture.old) (plane_and plane offset byte)) }
 {
     let answer = vram::plane_and(p0, p1, p2, p3, picture, plane, PlaneOffset(offset), byte);
     of_store(answer)
@@ -150,7 +150,7 @@ pub extern "C" fn iddesmar_vram_plane_or(
     offset: usize,
     byte: u8,
 ) -> Stored
-    ensures { StoredAs result (after p0 p1 p2 p3 picture) (vram_step (before p0 p1 p2 p3 picture) (plane_or plane offset byte)) }
+    ensures { StoredAs result (mem p0.new p1.new p2.new p3.new picture.new) (vram_step (mem p0.old p1.old p2.old p3.old picture.old) (plane_or plane offset byte)) }
 {
     let answer = vram::plane_or(p0, p1, p2, p3, picture, plane, PlaneOffset(offset), byte);
     of_store(answer)
@@ -165,7 +165,7 @@ pub extern "C" fn iddesmar_vram_deplane(
     picture: &mut [u8],
     offset: usize,
 ) -> Answer
-    ensures { outcome (answer_said result) (after p0 p1 p2 p3 picture) ≡ vram_step (before p0 p1 p2 p3 picture) (remakes offset) }
+    ensures { outcome (answer_said result) (mem p0.now p1.now p2.now p3.now picture.new) ≡ vram_step (mem p0.now p1.now p2.now p3.now picture.old) (remakes offset) }
 {
     let answer = vram::deplane(p0, p1, p2, p3, picture, PlaneOffset(offset));
     of_done(answer)
