@@ -1,6 +1,5 @@
 -- `map_address` answers as the machine, whatever the memory: by `mapped-anywhere`.
 use Rattle.graphics_address.proofs.Anywhere.{mapped-anywhere}
-use borrow.Author.Rules.{rules}
 use Rattle.graphics_address.proofs.map_address.Goals as goal
 
 pub returns : goal.returns

@@ -1,6 +1,5 @@
 -- `cga` shows as the machine: plane 0's byte and plane 1's next one, taken apart.
 use mathlib.Core.Path.{◌∙◌}
-use borrow.Author.Rules.{rules}
 use Rattle.machine.specs.Memory.{mem}
 use Rattle.graphics_pixels.proofs.Parts.{cga-shown}
 use Rattle.graphics_pixels.proofs.inner.cga.Goals as goal

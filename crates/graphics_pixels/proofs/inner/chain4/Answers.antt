@@ -1,6 +1,5 @@
 -- `chain4` shows as the machine: the four planes' bytes, taken apart.
 use mathlib.Core.Path.{◌∙◌}
-use borrow.Author.Rules.{rules}
 use Rattle.machine.specs.Memory.{mem}
 use Rattle.graphics_pixels.proofs.Parts.{chain4-shown}
 use Rattle.graphics_pixels.proofs.inner.chain4.Goals as goal

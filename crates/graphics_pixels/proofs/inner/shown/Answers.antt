@@ -1,6 +1,5 @@
 -- `shown` shows as the machine, by its mode, arm by arm.
 use native.Mathlib.Omega.{arith}
-use borrow.Author.Rules.{rules}
 use Rattle.machine.specs.Deeds.{shown_in}
 use Rattle.graphics_pixels.proofs.inner.shown.Goals as goal
 

@@ -1,5 +1,4 @@
 -- `of_store` tells the number and the four of the planes: from `refusal_number`.
-use borrow.Author.Rules.{rules}
 use Rattle.tape_machine.proofs.told.of_store.Goals as goal
 
 pub returns-in-Done : goal.returns-in-Done
