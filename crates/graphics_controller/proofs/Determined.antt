@@ -12,7 +12,7 @@ use Rattle.machine_types.specs.declared.answer.StoreAnswer.{StoreAnswer}
 use Rattle.machine_types.specs.declared.answer.CpuByte.{CpuByte}
 use Rattle.machine_types.specs.declared.answer.CpuStore.{CpuStore}
 use Rattle.machine_types.specs.declared.gc.GraphicsController.{GraphicsController}
-use Rattle.machine.specs.Memory.{Memory, lent}
+use Rattle.machine.specs.Memory.{Memory, mem}
 use Rattle.machine.specs.Answers.{Said, Outcome, outcome, byte_said, store_said}
 use Rattle.machine.specs.Step.{Device, device}
 use Rattle.machine.proofs.Injective.{answer-of, next_of, pixels-of, byte-injective, store-injective, shown-injective}

@@ -4,7 +4,7 @@ use mathlib.Core.Path.{◌≡◌, sym, ap, ap₂, ◌∙◌}
 use mathlib.Core.List.{List}
 use contract.Lifetimes.{Lfts}
 use borrow.Fn.Kinds.{Dens}
-use Rattle.machine.specs.Memory.{lent}
+use Rattle.machine.specs.Memory.{mem}
 use Rattle.machine.specs.Answers.{Said, Outcome, outcome}
 use Rattle.machine.specs.Calls.{read_counter, write_counter}
 use Rattle.machine.specs.Graphics.{read_mode, write_mode}

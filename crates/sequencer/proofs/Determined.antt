@@ -2,7 +2,7 @@
 use contract.Lifetimes.{Lfts}
 use denote.Triple.Clauses.{AtExit}
 use borrow.Fn.Kinds.{Dens, ended_of}
-use Rattle.machine.specs.Memory.{Memory, lent}
+use Rattle.machine.specs.Memory.{Memory, mem}
 use Rattle.machine.proofs.Injective.{answer-of, next_of, store-injective}
 use Rattle.machine_types.proofs.OneAnswer.{OneOutcome}
 use Rattle.sequencer.proofs.direct.plane_set.Reads as plane-set

@@ -6,7 +6,7 @@ use lib.ListN.{get_or}
 use contract.Lifetimes.{Lfts}
 use denote.Triple.Clauses.{AtExit}
 use borrow.Fn.Kinds.{Dens, ended_of}
-use Rattle.machine.specs.Memory.{Memory, lent}
+use Rattle.machine.specs.Memory.{Memory, mem}
 use Rattle.machine.specs.Answers.{Value, one, two, pixel, part, changes, shown, Outcome, outcome}
 use Rattle.machine.specs.Step.{State, state}
 use Rattle.tape_machine.specs.declared.told.Eight.{Eight}

@@ -4,7 +4,7 @@ use mathlib.Core.Path.{ap}
 use contract.Lifetimes.{Lfts}
 use denote.Triple.Clauses.{AtExit}
 use borrow.Fn.Kinds.{Dens, ended_of}
-use Rattle.machine.specs.Memory.{Memory, lent}
+use Rattle.machine.specs.Memory.{Memory, mem}
 use Rattle.machine.proofs.Injective.{answer-of, next_of, store-injective, done-injective}
 use Rattle.machine_types.proofs.OneAnswer.{OneOutcome}
 use Rattle.vram.proofs.write_u8.Reads as write-u8
@@ -23,7 +23,7 @@ abbrev Stored : Lfts 5 → Type 0
 Stored κs = AtExit (ended_of 5 plane-set-kinds.ps plane-set-kinds.r) κs
 
 abbrev left : (κs : Lfts 5) → Stored κs → Memory
-left κs e = lent e.0 e.1.0 e.1.1.0 e.1.1.1.0 e.1.1.1.1.0
+left κs e = mem e.0.now e.1.0.now e.1.1.0.now e.1.1.1.0.now e.1.1.1.1.0.now
 
 module _ (κs : Lfts 5) (a : Dens κs write-u8-kinds.ps) where
   pub write-u8-determined : OneOutcome (write-u8.Post κs a) (left κs)

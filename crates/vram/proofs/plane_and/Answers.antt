@@ -1,0 +1,10 @@
+-- `plane_and` is `plane_store` of its kind.
+use borrow.Author.Rules.{rules}
+use Rattle.machine.specs.Step.{vram_step}
+use Rattle.machine.specs.Calls.{vram_plan}
+use Rattle.vram.proofs.plane_and.Goals as goal
+
+pub returns : goal.returns
+unfolding vram_step vram_plan
+returns c =
+    c.plane_store.ensures

@@ -1,0 +1,10 @@
+-- `write_u8` does as the machine, whose plan for it is that of `plane_set`.
+use borrow.Author.Rules.{rules}
+use Rattle.machine.specs.Step.{vram_step}
+use Rattle.machine.specs.Calls.{vram_plan}
+use Rattle.vram.proofs.write_u8.Goals as goal
+
+pub returns : goal.returns
+unfolding vram_step vram_plan
+returns c =
+    c.plane_set.ensures
