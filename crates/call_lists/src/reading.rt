@@ -1,9 +1,10 @@
 // A list as it is read: byte by byte out of a buffer, which is filled anew where it is used up; the line so far, and the call that a line has.
-use libc::STDIN_FILENO;
 use list_lines::line::{Call, Line};
+use std::io::Stdin;
 
 #[derive(Clone, Copy)]
 pub struct Reading {
+    pub from: Stdin,
     pub line: Line,
     // the place of the buffer's next byte, and how many it has
     pub at: usize,
@@ -17,9 +18,10 @@ pub struct Reading {
 }
 
 impl Reading {
-    pub fn new() -> Self {
+    pub fn new(from: Stdin) -> Self {
         let line = Line::new();
         Reading {
+            from,
             line,
             at: 0,
             held: 0,
@@ -42,7 +44,8 @@ impl Reading {
 
     // The first byte of what standard input has next. At its end the last line ends too, with a newline or without.
     fn filled(mut self, input: &mut [u8]) -> Self {
-        self.held = io::read_full(STDIN_FILENO, input);
+        let mut from = self.from;
+        self.held = streams::read_full(&mut from, input);
         self.at = 1;
         if self.held == 0 {
             self.ended = true;

@@ -1,4 +1,4 @@
-// A session: both records, how much memory is lent, the list as it is read, and how many calls there were.
+// A session: where its lines go, both records, how much memory is lent, the list as it is read, and how many calls there were.
 use crate::reading::Reading;
 use crate::settings;
 use list_calls::asked::Asked;
@@ -6,9 +6,11 @@ use list_calls::{graphics_call, memory_call, sequencer_call};
 use list_lines::said::{GraphicsLeft, Said};
 use list_lines::{print, said};
 use machine_types::{GraphicsController, Sequencer, Shape};
+use std::io::{Stdin, Stdout};
 
 #[derive(Clone, Copy)]
 pub struct Session {
+    pub to: Stdout,
     pub gc: GraphicsController,
     pub seq: Sequencer,
     pub lent: Shape,
@@ -22,7 +24,7 @@ pub struct Session {
 
 impl Session {
     // Fresh records, and the memory of the Rust.
-    pub fn new(bytes: usize) -> Self {
+    pub fn new(from: Stdin, to: Stdout, bytes: usize) -> Self {
         let lent = Shape {
             p0: 65536,
             p1: 65536,
@@ -31,10 +33,11 @@ impl Session {
             picture: 524288,
         };
         Session {
+            to,
             gc: GraphicsController::new(),
             seq: Sequencer::new(),
             lent,
-            reading: Reading::new(),
+            reading: Reading::new(from),
             left: bytes,
             calls: 0,
             due: false,
@@ -71,7 +74,7 @@ impl Session {
         let operation = self.reading.call.operation;
         self.calls = std::num::wrapping_add_u64(self.calls, 1);
         if self.reading.overlong {
-            told(self.calls, operation, Said::Overlong);
+            told(self.to, self.calls, operation, Said::Overlong);
             return self;
         }
         if memory_call::is_on_memory(operation) {
@@ -94,7 +97,7 @@ impl Session {
             43 => self.seq = settings::sequencer(call, self.seq),
             _ => self.lent = settings::lengths(call, self.lent),
         }
-        told(self.calls, operation, said::done());
+        told(self.to, self.calls, operation, said::done());
         self
     }
 
@@ -108,7 +111,7 @@ impl Session {
         let said = left.said;
         let kept = left.seq;
         self.seq = kept;
-        told(self.calls, call.operation, said);
+        told(self.to, self.calls, call.operation, said);
         self
     }
 
@@ -119,7 +122,7 @@ impl Session {
         let kept = left.gc;
         self.gc = kept;
         if operation != 0 {
-            told(self.calls, operation, said);
+            told(self.to, self.calls, operation, said);
         }
         self
     }
@@ -145,9 +148,9 @@ impl Session {
 }
 
 // A call's line.
-fn told(calls: u64, operation: usize, said: Said) {
+fn told(to: Stdout, calls: u64, operation: usize, said: Said) {
     let mut out = [0u8; 512];
     let mut at = print::begin(&mut out, calls, operation as u64);
     at = said::text(said, &mut out, at);
-    print::end(&mut out, at);
+    print::end(to, &mut out, at);
 }

@@ -10,9 +10,9 @@ use machine_types::{GraphicsController, MemoryMap, PlaneOffset, Sequencer};
 use std::num::wrapping_add_u64;
 
 // Standard input has two bytes, a row's number and how many thousand turns are made; a line with a sum is written. Of any other input, or a row that there is not, nothing is.
-fn main() {
+fn main(rt: HostRuntime) {
     let mut input = [0u8; 3];
-    if io::read_full(libc::STDIN_FILENO, &mut input) != 2 {
+    if streams::read_full(&mut rt.stdin(), &mut input) != 2 {
         return;
     }
     if input[0] > 11 {
@@ -32,8 +32,10 @@ fn main() {
         &mut p3,
         &mut picture,
     );
-    io::print_decimal(libc::STDOUT_FILENO, sum);
-    io::write_all(libc::STDOUT_FILENO, b"\n");
+    let mut text = [0u8; 20];
+    let length = io::decimal(sum, &mut text);
+    streams::write_all(&mut rt.stdout(), &text[..length]);
+    streams::write_all(&mut rt.stdout(), b"\n");
 }
 
 // A row's turns: a sum over the answers, the planes and the picture.

@@ -7,6 +7,7 @@ use graphics_controller::cpu_write_u8;
 use list_lines::said;
 use list_lines::said::{GraphicsLeft, answer, done, kept};
 use machine_types::{CpuStore, GraphicsController, PlaneOffset, Sequencer, StoreAnswer};
+use std::io::Stdout;
 use vram::deplane;
 
 // The operation that puts a byte into memory itself, lent or not.
@@ -20,6 +21,7 @@ pub fn is_on_memory(operation: usize) -> bool {
 }
 
 pub fn called(
+    to: Stdout,
     a: Asked,
     gc: GraphicsController,
     seq: Sequencer,
@@ -41,7 +43,7 @@ pub fn called(
             put(a, p0, p1, p2, p3, picture);
             kept(gc, done())
         }
-        _ => reads(a, gc, seq, p0, p1, p2, p3, picture),
+        _ => reads(to, a, gc, seq, p0, p1, p2, p3, picture),
     }
 }
 

@@ -4,11 +4,13 @@ use answers::{of_byte, of_part, of_pixel, of_shown};
 use graphics_controller::{cpu_peek_u8, cpu_read_u8, serialize, show_pixels};
 use list_lines::said::{GraphicsLeft, Said, answer, done, kept, pixels, shown};
 use machine_types::{CpuByte, GraphicsController, PixelPlace, PlaneOffset, Sequencer};
+use std::io::Stdout;
 
 // What an older show's number is before the call: no answer has it.
 const UNTOLD: u8 = 255;
 
 pub fn reads(
+    to: Stdout,
     a: Asked,
     gc: GraphicsController,
     seq: Sequencer,
@@ -21,7 +23,7 @@ pub fn reads(
     let operation = a.operation;
     match operation {
         0 => {
-            list_lines::digest::print(a.number, gc, seq, p0, p1, p2, p3, picture);
+            list_lines::digest::print(to, a.number, gc, seq, p0, p1, p2, p3, picture);
             kept(gc, done())
         }
         1..=5 => kept(gc, of_memory(a, p0, p1, p2, p3, picture)),

@@ -3,6 +3,7 @@ use crate::print;
 use crate::print::numbers;
 use crate::said::bit;
 use machine_types::{GraphicsController, GraphicsControllerStats, GraphicsRegisters, Sequencer};
+use std::io::Stdout;
 use std::num::wrapping_add_u32;
 
 fn widened(x: u8) -> u64 {
@@ -98,6 +99,7 @@ fn records(gc: GraphicsController, seq: Sequencer, out: &mut [u8; 512], at: usiz
 
 // The line of a digest, which is its list's call of this number.
 pub fn print(
+    to: Stdout,
     number: u64,
     gc: GraphicsController,
     seq: Sequencer,
@@ -115,5 +117,5 @@ pub fn print(
     at = checksum(p2, &mut out, at);
     at = checksum(p3, &mut out, at);
     at = checksum(picture, &mut out, at);
-    print::end(&mut out, at);
+    print::end(to, &mut out, at);
 }

@@ -1,6 +1,6 @@
 // A line of text in a lent array: each function puts what it has at a place and answers the next place. What finds no room is dropped:
 // the longest line, a digest's, has fewer than 500 bytes.
-use libc::STDOUT_FILENO;
+use std::io::Stdout;
 
 pub fn put(out: &mut [u8; 512], at: usize, b: u8) -> usize {
     if at < 512 {
@@ -61,17 +61,17 @@ pub fn nibble(out: &mut [u8; 512], at: usize, n: u64) -> usize {
     if digit < 10 {
         return put(out, at, b'0' + digit);
     }
-    put(out, at, b'_a' + (digit - 10))
+    put(out, at, b'A' + (digit - 10))
 }
 
 // The line's end, and the whole line to standard output.
-pub fn end(out: &mut [u8; 512], at: usize) {
+pub fn end(to: Stdout, out: &mut [u8; 512], at: usize) {
     let length = put(out, at, b'\n');
-    send(out, length);
+    send(to, out, length);
 }
 
-fn send(out: &[u8], length: usize) {
+fn send(mut to: Stdout, out: &[u8], length: usize) {
     if length <= out.len() {
-        io::write_all(STDOUT_FILENO, &out[..length]);
+        streams::write_all(&mut to, &out[..length]);
     }
 }

@@ -1,13 +1,13 @@
 // Many short tapes: standard input has each as its length, one byte, and its bytes; after each tape's lines comes a line '='.
 #![tactic(auto)]
 
-fn main() {
+fn main(rt: HostRuntime) {
     let mut input = [0u8; 4096];
-    let count = io::read_full(libc::STDIN_FILENO, &mut input);
-    each(&input[..count]);
+    let count = streams::read_full(&mut rt.stdin(), &mut input);
+    each(rt, &input[..count]);
 }
 
-fn each(tapes: &[u8]) {
+fn each(rt: HostRuntime, tapes: &[u8]) {
     let mut at: usize = 0;
     while at < tapes.len() {
         let from = at + 1;
@@ -16,8 +16,8 @@ fn each(tapes: &[u8]) {
             return;
         }
         let end = from + size;
-        tape_program::play_tape(&tapes[from..end]);
-        io::write_all(libc::STDOUT_FILENO, b"=\n");
+        tape_program::play_tape(rt, &tapes[from..end]);
+        streams::write_all(&mut rt.stdout(), b"=\n");
         at = end;
     }
 }

@@ -3,26 +3,26 @@
 #![tactic(auto)]
 
 // Reads the first 16,384 bytes of standard input as a tape, and plays it.
-pub fn play() {
+pub fn play(rt: HostRuntime) {
     let mut input = [0u8; 16384];
-    let count = io::read_full(libc::STDIN_FILENO, &mut input);
-    play_tape(&input[..count]);
+    let count = streams::read_full(&mut rt.stdin(), &mut input);
+    play_tape(rt, &input[..count]);
 }
 
 // Writes a tape's lines to standard output. A tape has at most 16,384 bytes.
-pub fn play_tape(tape: &[u8]) {
+pub fn play_tape(rt: HostRuntime, tape: &[u8]) {
     // the longest line for each byte of the longest tape
     let mut lines = [0u8; 1376256];
     let ran = tape_reader::run_from_start(tape, &mut lines);
-    emit(&lines, ran.written);
+    emit(rt, &lines, ran.written);
 }
 
-// Writes the first bytes of a text; where that fails, a line to standard error says so, since a program has no exit status.
-fn emit(text: &[u8], count: usize) {
+// Writes the first bytes of a text; where that fails, a line to standard error says so, and there is no other sign.
+fn emit(rt: HostRuntime, text: &[u8], count: usize) {
     if count <= text.len() {
-        if !io::write_all(libc::STDOUT_FILENO, &text[..count]) {
-            io::write_all(
-                libc::STDERR_FILENO,
+        if !streams::write_all(&mut rt.stdout(), &text[..count]) {
+            streams::write_all(
+                &mut rt.stderr(),
                 b"tape: standard output could not be written\n",
             );
         }
