@@ -1,6 +1,6 @@
 // The processor's accesses, both records lent: a read and a write update the controller's where it stands, and the other three leave it alone.
 ghost use Rattle.std.specs.Prelude.{◌≡◌, []};
-ghost use Rattle.machine.specs.Memory.{before, after};
+ghost use Rattle.machine.specs.Memory.{mem, before};
 ghost use Rattle.machine.specs.Answers.{one, part, changes, shown, no_pixels, outcome};
 ghost use Rattle.machine.specs.Graphics.{shift_mode};
 ghost use Rattle.machine.specs.Calls.{cpu_read, cpu_peek, cpu_write, serialize, show_pixels};
@@ -13,8 +13,7 @@ use answers::{Answer, Shown, Stored};
 use host_calls::{peek_of, read_of, serialize_of, show_of, write_of};
 use host_records::record::{ControllerRecord, SequencerRecord};
 
-#[unsafe(no_mangle)]
-pub extern "C" fn iddesmar_gc_cpu_read_u8_2(
+pub fn iddesmar_gc_cpu_read_u8_2(
     gc: &mut ControllerRecord,
     seq: &SequencerRecord,
     p0: &[u8],
@@ -29,7 +28,8 @@ pub extern "C" fn iddesmar_gc_cpu_read_u8_2(
         ≡ cpu_hosted gc.old seq.now (before p0 p1 p2 p3 picture) (one 0) (cpu_read address (is_set page)) }
 {
     let w = read_of(*gc, *seq, p0, p1, p2, p3, picture, address, page);
-    gc.latches = w.latches;
+    let latches = w.latches;
+    gc.latches = latches;
     // one counter goes up where it stands
     match w.counter {
         4 => gc.stats.mode_0_reads = std::num::wrapping_add_u32(gc.stats.mode_0_reads, 1),
@@ -40,8 +40,7 @@ pub extern "C" fn iddesmar_gc_cpu_read_u8_2(
     w.answer
 }
 
-#[unsafe(no_mangle)]
-pub extern "C" fn iddesmar_gc_cpu_write_u8_2(
+pub fn iddesmar_gc_cpu_write_u8_2(
     gc: &mut ControllerRecord,
     seq: &SequencerRecord,
     p0: &mut [u8],
@@ -53,8 +52,8 @@ pub extern "C" fn iddesmar_gc_cpu_write_u8_2(
     page: u8,
     byte: u8,
 ) -> Stored
-    ensures { StoredAs result (held gc.new (after p0 p1 p2 p3 picture))
-        (cpu_hosted gc.old seq.now (before p0 p1 p2 p3 picture) (changes 0 0 0 0) (cpu_write address (is_set page) byte)) }
+    ensures { StoredAs result (held gc.new (mem p0.new p1.new p2.new p3.new picture.new))
+        (cpu_hosted gc.old seq.now (mem p0.old p1.old p2.old p3.old picture.old) (changes 0 0 0 0) (cpu_write address (is_set page) byte)) }
 {
     let w = write_of(*gc, *seq, p0, p1, p2, p3, picture, address, page, byte);
     // one counter goes up where it stands
@@ -70,8 +69,7 @@ pub extern "C" fn iddesmar_gc_cpu_write_u8_2(
 }
 
 // Plane 0's byte, or under chain-four that of plane offset mod 4; nothing moves.
-#[unsafe(no_mangle)]
-pub extern "C" fn iddesmar_gc_cpu_peek_u8_2(
+pub fn iddesmar_gc_cpu_peek_u8_2(
     gc: &ControllerRecord,
     seq: &SequencerRecord,
     p0: &[u8],
@@ -89,8 +87,7 @@ pub extern "C" fn iddesmar_gc_cpu_peek_u8_2(
 }
 
 // The eight pixels of an offset, by the older show: refused in two shift modes.
-#[unsafe(no_mangle)]
-pub extern "C" fn iddesmar_gc_serialize_2(
+pub fn iddesmar_gc_serialize_2(
     gc: &ControllerRecord,
     seq: &SequencerRecord,
     p0: &[u8],
@@ -106,8 +103,7 @@ pub extern "C" fn iddesmar_gc_serialize_2(
 }
 
 // The eight pixels of an offset, in every shift mode.
-#[unsafe(no_mangle)]
-pub extern "C" fn iddesmar_gc_show_pixels_2(
+pub fn iddesmar_gc_show_pixels_2(
     gc: &ControllerRecord,
     seq: &SequencerRecord,
     p0: &[u8],

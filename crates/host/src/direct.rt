@@ -1,6 +1,6 @@
 // The sequencer's own calls on memory, on its record by value.
 ghost use Rattle.std.specs.Prelude.{◌≡◌, []};
-ghost use Rattle.machine.specs.Memory.{before, after};
+ghost use Rattle.machine.specs.Memory.{mem, before};
 ghost use Rattle.machine.specs.Answers.{one, pixel, part, changes, outcome};
 ghost use Rattle.machine.specs.Calls.{seq_cpu_read_u8, seq_peek_u8, seq_gc_read_u8, seq_read_linear, seq_serialize_linear, seq_plane_set, seq_plane_and, seq_plane_or};
 ghost use Rattle.answers.specs.Answers.{answer_said, pixel_answer_said};
@@ -15,8 +15,7 @@ use answers::{
 use host_records::record::{SequencerRecord, is_set, known_sequencer, to_sequencer};
 use machine_types::{PixelPlace, PlaneOffset};
 
-#[unsafe(no_mangle)]
-pub extern "C" fn iddesmar_seq_cpu_read_u8(
+pub fn iddesmar_seq_cpu_read_u8(
     seq: SequencerRecord,
     p0: &[u8],
     p1: &[u8],
@@ -39,8 +38,7 @@ pub extern "C" fn iddesmar_seq_cpu_read_u8(
     of_byte(answer)
 }
 
-#[unsafe(no_mangle)]
-pub extern "C" fn iddesmar_seq_peek_u8(
+pub fn iddesmar_seq_peek_u8(
     seq: SequencerRecord,
     p0: &[u8],
     p1: &[u8],
@@ -63,8 +61,7 @@ pub extern "C" fn iddesmar_seq_peek_u8(
     of_byte(answer)
 }
 
-#[unsafe(no_mangle)]
-pub extern "C" fn iddesmar_seq_gc_read_u8(
+pub fn iddesmar_seq_gc_read_u8(
     seq: SequencerRecord,
     p0: &[u8],
     p1: &[u8],
@@ -87,8 +84,7 @@ pub extern "C" fn iddesmar_seq_gc_read_u8(
     of_byte(answer)
 }
 
-#[unsafe(no_mangle)]
-pub extern "C" fn iddesmar_seq_read_linear(
+pub fn iddesmar_seq_read_linear(
     seq: SequencerRecord,
     p0: &[u8],
     p1: &[u8],
@@ -107,8 +103,7 @@ pub extern "C" fn iddesmar_seq_read_linear(
     of_pixel(answer)
 }
 
-#[unsafe(no_mangle)]
-pub extern "C" fn iddesmar_seq_serialize_linear(
+pub fn iddesmar_seq_serialize_linear(
     seq: SequencerRecord,
     p0: &[u8],
     p1: &[u8],
@@ -129,8 +124,7 @@ pub extern "C" fn iddesmar_seq_serialize_linear(
     of_part(number, part)
 }
 
-#[unsafe(no_mangle)]
-pub extern "C" fn iddesmar_seq_plane_set(
+pub fn iddesmar_seq_plane_set(
     seq: SequencerRecord,
     p0: &mut [u8],
     p1: &mut [u8],
@@ -142,7 +136,7 @@ pub extern "C" fn iddesmar_seq_plane_set(
     a0: u8,
     byte: u8,
 ) -> Stored
-    ensures { StoredAs result (after p0 p1 p2 p3 picture) (direct_hosted seq (before p0 p1 p2 p3 picture) (changes 0 0 0 0) (seq_plane_set plane offset (is_set a0) byte)) }
+    ensures { StoredAs result (mem p0.new p1.new p2.new p3.new picture.new) (direct_hosted seq (mem p0.old p1.old p2.old p3.old picture.old) (changes 0 0 0 0) (seq_plane_set plane offset (is_set a0) byte)) }
 {
     if !known_sequencer(seq) {
         return unknown_stored();
@@ -154,8 +148,7 @@ pub extern "C" fn iddesmar_seq_plane_set(
     of_store(answer)
 }
 
-#[unsafe(no_mangle)]
-pub extern "C" fn iddesmar_seq_plane_and(
+pub fn iddesmar_seq_plane_and(
     seq: SequencerRecord,
     p0: &mut [u8],
     p1: &mut [u8],
@@ -167,7 +160,7 @@ pub extern "C" fn iddesmar_seq_plane_and(
     a0: u8,
     byte: u8,
 ) -> Stored
-    ensures { StoredAs result (after p0 p1 p2 p3 picture) (direct_hosted seq (before p0 p1 p2 p3 picture) (changes 0 0 0 0) (seq_plane_and plane offset (is_set a0) byte)) }
+    ensures { StoredAs result (mem p0.new p1.new p2.new p3.new picture.new) (direct_hosted seq (mem p0.old p1.old p2.old p3.old picture.old) (changes 0 0 0 0) (seq_plane_and plane offset (is_set a0) byte)) }
 {
     if !known_sequencer(seq) {
         return unknown_stored();
@@ -179,8 +172,7 @@ pub extern "C" fn iddesmar_seq_plane_and(
     of_store(answer)
 }
 
-#[unsafe(no_mangle)]
-pub extern "C" fn iddesmar_seq_plane_or(
+pub fn iddesmar_seq_plane_or(
     seq: SequencerRecord,
     p0: &mut [u8],
     p1: &mut [u8],
@@ -192,7 +184,7 @@ pub extern "C" fn iddesmar_seq_plane_or(
     a0: u8,
     byte: u8,
 ) -> Stored
-    ensures { StoredAs result (after p0 p1 p2 p3 picture) (direct_hosted seq (before p0 p1 p2 p3 picture) (changes 0 0 0 0) (seq_plane_or plane offset (is_set a0) byte)) }
+    ensures { StoredAs result (mem p0.new p1.new p2.new p3.new picture.new) (direct_hosted seq (mem p0.old p1.old p2.old p3.old picture.old) (changes 0 0 0 0) (seq_plane_or plane offset (is_set a0) byte)) }
 {
     if !known_sequencer(seq) {
         return unknown_stored();

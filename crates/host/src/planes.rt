@@ -1,6 +1,6 @@
 // The calls on memory alone, as vram.rs has them: no record is handed in.
 ghost use Rattle.std.specs.Prelude.{◌≡◌};
-ghost use Rattle.machine.specs.Memory.{before, after};
+ghost use Rattle.machine.specs.Memory.{mem, before};
 ghost use Rattle.machine.specs.Answers.{outcome};
 ghost use Rattle.machine.specs.Calls.{read_u8, peek_u8, read_glyph, read_linear, serialize_linear, write_u8, plane_set, plane_and, plane_or, deplane as remakes};
 ghost use Rattle.machine.specs.Step.{vram_step};
@@ -10,8 +10,7 @@ ghost use Rattle.answers.specs.Wide.{shown_of, StoredAs};
 use answers::{Answer, Shown, Stored, of_byte, of_done, of_part, of_pixel, of_store};
 use machine_types::{PixelPlace, PlaneOffset};
 
-#[unsafe(no_mangle)]
-pub extern "C" fn iddesmar_vram_read_u8(
+pub fn iddesmar_vram_read_u8(
     p0: &[u8],
     p1: &[u8],
     p2: &[u8],
@@ -26,8 +25,7 @@ pub extern "C" fn iddesmar_vram_read_u8(
     of_byte(answer)
 }
 
-#[unsafe(no_mangle)]
-pub extern "C" fn iddesmar_vram_peek_u8(
+pub fn iddesmar_vram_peek_u8(
     p0: &[u8],
     p1: &[u8],
     p2: &[u8],
@@ -42,8 +40,7 @@ pub extern "C" fn iddesmar_vram_peek_u8(
     of_byte(answer)
 }
 
-#[unsafe(no_mangle)]
-pub extern "C" fn iddesmar_vram_read_glyph(
+pub fn iddesmar_vram_read_glyph(
     p0: &[u8],
     p1: &[u8],
     p2: &[u8],
@@ -57,8 +54,7 @@ pub extern "C" fn iddesmar_vram_read_glyph(
     of_byte(answer)
 }
 
-#[unsafe(no_mangle)]
-pub extern "C" fn iddesmar_vram_read_linear(
+pub fn iddesmar_vram_read_linear(
     p0: &[u8],
     p1: &[u8],
     p2: &[u8],
@@ -72,8 +68,7 @@ pub extern "C" fn iddesmar_vram_read_linear(
     of_pixel(answer)
 }
 
-#[unsafe(no_mangle)]
-pub extern "C" fn iddesmar_vram_serialize_linear(
+pub fn iddesmar_vram_serialize_linear(
     p0: &[u8],
     p1: &[u8],
     p2: &[u8],
@@ -88,8 +83,7 @@ pub extern "C" fn iddesmar_vram_serialize_linear(
     of_part(number, part)
 }
 
-#[unsafe(no_mangle)]
-pub extern "C" fn iddesmar_vram_write_u8(
+pub fn iddesmar_vram_write_u8(
     p0: &mut [u8],
     p1: &mut [u8],
     p2: &mut [u8],
@@ -99,14 +93,13 @@ pub extern "C" fn iddesmar_vram_write_u8(
     offset: usize,
     byte: u8,
 ) -> Stored
-    ensures { StoredAs result (after p0 p1 p2 p3 picture) (vram_step (before p0 p1 p2 p3 picture) (write_u8 plane offset byte)) }
+    ensures { StoredAs result (mem p0.new p1.new p2.new p3.new picture.new) (vram_step (mem p0.old p1.old p2.old p3.old picture.old) (write_u8 plane offset byte)) }
 {
     let answer = vram::write_u8(p0, p1, p2, p3, picture, plane, PlaneOffset(offset), byte);
     of_store(answer)
 }
 
-#[unsafe(no_mangle)]
-pub extern "C" fn iddesmar_vram_plane_set(
+pub fn iddesmar_vram_plane_set(
     p0: &mut [u8],
     p1: &mut [u8],
     p2: &mut [u8],
@@ -116,14 +109,13 @@ pub extern "C" fn iddesmar_vram_plane_set(
     offset: usize,
     byte: u8,
 ) -> Stored
-    ensures { StoredAs result (after p0 p1 p2 p3 picture) (vram_step (before p0 p1 p2 p3 picture) (plane_set plane offset byte)) }
+    ensures { StoredAs result (mem p0.new p1.new p2.new p3.new picture.new) (vram_step (mem p0.old p1.old p2.old p3.old picture.old) (plane_set plane offset byte)) }
 {
     let answer = vram::plane_set(p0, p1, p2, p3, picture, plane, PlaneOffset(offset), byte);
     of_store(answer)
 }
 
-#[unsafe(no_mangle)]
-pub extern "C" fn iddesmar_vram_plane_and(
+pub fn iddesmar_vram_plane_and(
     p0: &mut [u8],
     p1: &mut [u8],
     p2: &mut [u8],
@@ -133,14 +125,13 @@ pub extern "C" fn iddesmar_vram_plane_and(
     offset: usize,
     byte: u8,
 ) -> Stored
-    ensures { StoredAs result (after p0 p1 p2 p3 picture) (vram_step (before p0 p1 p2 p3 picture) (plane_and plane offset byte)) }
+    ensures { StoredAs result (mem p0.new p1.new p2.new p3.new picture.new) (vram_step (mem p0.old p1.old p2.old p3.old picture.old) (plane_and plane offset byte)) }
 {
     let answer = vram::plane_and(p0, p1, p2, p3, picture, plane, PlaneOffset(offset), byte);
     of_store(answer)
 }
 
-#[unsafe(no_mangle)]
-pub extern "C" fn iddesmar_vram_plane_or(
+pub fn iddesmar_vram_plane_or(
     p0: &mut [u8],
     p1: &mut [u8],
     p2: &mut [u8],
@@ -150,14 +141,13 @@ pub extern "C" fn iddesmar_vram_plane_or(
     offset: usize,
     byte: u8,
 ) -> Stored
-    ensures { StoredAs result (after p0 p1 p2 p3 picture) (vram_step (before p0 p1 p2 p3 picture) (plane_or plane offset byte)) }
+    ensures { StoredAs result (mem p0.new p1.new p2.new p3.new picture.new) (vram_step (mem p0.old p1.old p2.old p3.old picture.old) (plane_or plane offset byte)) }
 {
     let answer = vram::plane_or(p0, p1, p2, p3, picture, plane, PlaneOffset(offset), byte);
     of_store(answer)
 }
 
-#[unsafe(no_mangle)]
-pub extern "C" fn iddesmar_vram_deplane(
+pub fn iddesmar_vram_deplane(
     p0: &[u8],
     p1: &[u8],
     p2: &[u8],
@@ -165,7 +155,7 @@ pub extern "C" fn iddesmar_vram_deplane(
     picture: &mut [u8],
     offset: usize,
 ) -> Answer
-    ensures { outcome (answer_said result) (after p0 p1 p2 p3 picture) ≡ vram_step (before p0 p1 p2 p3 picture) (remakes offset) }
+    ensures { outcome (answer_said result) (mem p0.now p1.now p2.now p3.now picture.new) ≡ vram_step (mem p0.now p1.now p2.now p3.now picture.old) (remakes offset) }
 {
     let answer = vram::deplane(p0, p1, p2, p3, picture, PlaneOffset(offset));
     of_done(answer)
