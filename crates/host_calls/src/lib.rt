@@ -2,7 +2,7 @@
 #![tactic(auto)]
 
 ghost use Rattle.std.specs.Prelude.{◌≡◌, []};
-ghost use Rattle.machine.specs.Memory.{before, after};
+ghost use Rattle.machine.specs.Memory.{mem, before};
 ghost use Rattle.machine.specs.Answers.{one, part, changes, shown, no_pixels, outcome};
 ghost use Rattle.machine.specs.Graphics.{read_mode, shift_mode, write_mode};
 ghost use Rattle.machine.specs.Calls.{read_counter, write_counter, cpu_read, cpu_peek, cpu_write, serialize, show_pixels, gc_reset, gc_write_address, gc_write_data, seq_write_address, seq_write_data};
@@ -79,8 +79,8 @@ pub fn write_of(
     page: u8,
     byte: u8,
 ) -> WriteAnswer
-    ensures { StoredAs result.answer (held (with_count result.counter gc) (after p0 p1 p2 p3 picture))
-        (cpu_hosted gc seq (before p0 p1 p2 p3 picture) (changes 0 0 0 0) (cpu_write address (is_set page) byte))
+    ensures { StoredAs result.answer (held (with_count result.counter gc) (mem p0.new p1.new p2.new p3.new picture.new))
+        (cpu_hosted gc seq (mem p0.old p1.old p2.old p3.old picture.old) (changes 0 0 0 0) (cpu_write address (is_set page) byte))
         × (result.counter ≡ counter_of result.answer.number (write_counter (write_mode (controller_of gc).registers))) }
 {
     if !known(gc, seq) {
