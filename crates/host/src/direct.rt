@@ -1,6 +1,6 @@
 // The sequencer's own calls on memory, on its record by value.
 ghost use Rattle.std.specs.Prelude.{◌≡◌, []};
-ghost use Rattle.machine.specs.Memory.{mem, before};
+ghost use Rattle.machine.specs.Memory.{mem};
 ghost use Rattle.machine.specs.Answers.{one, pixel, part, changes, outcome};
 ghost use Rattle.machine.specs.Calls.{seq_cpu_read_u8, seq_peek_u8, seq_gc_read_u8, seq_read_linear, seq_serialize_linear, seq_plane_set, seq_plane_and, seq_plane_or};
 ghost use Rattle.answers.specs.Answers.{answer_said, pixel_answer_said};
@@ -26,7 +26,7 @@ pub fn iddesmar_seq_cpu_read_u8(
     offset: usize,
     a0: u8,
 ) -> Answer
-    ensures { outcome (answer_said result) (before p0 p1 p2 p3 picture) ≡ direct_hosted seq (before p0 p1 p2 p3 picture) (one 0) (seq_cpu_read_u8 plane offset (is_set a0)) }
+    ensures { outcome (answer_said result) (mem p0.now p1.now p2.now p3.now picture.now) ≡ direct_hosted seq (mem p0.now p1.now p2.now p3.now picture.now) (one 0) (seq_cpu_read_u8 plane offset (is_set a0)) }
 {
     if !known_sequencer(seq) {
         return unknown();
@@ -49,7 +49,7 @@ pub fn iddesmar_seq_peek_u8(
     offset: usize,
     a0: u8,
 ) -> Answer
-    ensures { outcome (answer_said result) (before p0 p1 p2 p3 picture) ≡ direct_hosted seq (before p0 p1 p2 p3 picture) (one 0) (seq_peek_u8 plane offset (is_set a0)) }
+    ensures { outcome (answer_said result) (mem p0.now p1.now p2.now p3.now picture.now) ≡ direct_hosted seq (mem p0.now p1.now p2.now p3.now picture.now) (one 0) (seq_peek_u8 plane offset (is_set a0)) }
 {
     if !known_sequencer(seq) {
         return unknown();
@@ -72,7 +72,7 @@ pub fn iddesmar_seq_gc_read_u8(
     offset: usize,
     a0: u8,
 ) -> Answer
-    ensures { outcome (answer_said result) (before p0 p1 p2 p3 picture) ≡ direct_hosted seq (before p0 p1 p2 p3 picture) (one 0) (seq_gc_read_u8 plane offset (is_set a0)) }
+    ensures { outcome (answer_said result) (mem p0.now p1.now p2.now p3.now picture.now) ≡ direct_hosted seq (mem p0.now p1.now p2.now p3.now picture.now) (one 0) (seq_gc_read_u8 plane offset (is_set a0)) }
 {
     if !known_sequencer(seq) {
         return unknown();
@@ -93,7 +93,7 @@ pub fn iddesmar_seq_read_linear(
     picture: &[u8],
     place: usize,
 ) -> Answer
-    ensures { outcome (pixel_answer_said result) (before p0 p1 p2 p3 picture) ≡ direct_hosted seq (before p0 p1 p2 p3 picture) (pixel 0) (seq_read_linear place) }
+    ensures { outcome (pixel_answer_said result) (mem p0.now p1.now p2.now p3.now picture.now) ≡ direct_hosted seq (mem p0.now p1.now p2.now p3.now picture.now) (pixel 0) (seq_read_linear place) }
 {
     if !known_sequencer(seq) {
         return unknown();
@@ -112,7 +112,7 @@ pub fn iddesmar_seq_serialize_linear(
     picture: &[u8],
     offset: usize,
 ) -> Shown
-    ensures { result ≡ shown_of (direct_hosted seq (before p0 p1 p2 p3 picture) (part []) (seq_serialize_linear offset)).answer }
+    ensures { result ≡ shown_of (direct_hosted seq (mem p0.now p1.now p2.now p3.now picture.now) (part []) (seq_serialize_linear offset)).answer }
 {
     if !known_sequencer(seq) {
         return unknown_shown();

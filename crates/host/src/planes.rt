@@ -1,6 +1,6 @@
 // The calls on memory alone, as vram.rs has them: no record is handed in.
 ghost use Rattle.std.specs.Prelude.{◌≡◌};
-ghost use Rattle.machine.specs.Memory.{mem, before};
+ghost use Rattle.machine.specs.Memory.{mem};
 ghost use Rattle.machine.specs.Answers.{outcome};
 ghost use Rattle.machine.specs.Calls.{read_u8, peek_u8, read_glyph, read_linear, serialize_linear, write_u8, plane_set, plane_and, plane_or, deplane as remakes};
 ghost use Rattle.machine.specs.Step.{vram_step};
@@ -19,7 +19,7 @@ pub fn iddesmar_vram_read_u8(
     plane: usize,
     offset: usize,
 ) -> Answer
-    ensures { outcome (answer_said result) (before p0 p1 p2 p3 picture) ≡ vram_step (before p0 p1 p2 p3 picture) (read_u8 plane offset) }
+    ensures { outcome (answer_said result) (mem p0.now p1.now p2.now p3.now picture.now) ≡ vram_step (mem p0.now p1.now p2.now p3.now picture.now) (read_u8 plane offset) }
 {
     let answer = vram::read_u8(p0, p1, p2, p3, picture, plane, PlaneOffset(offset));
     of_byte(answer)
@@ -34,7 +34,7 @@ pub fn iddesmar_vram_peek_u8(
     plane: usize,
     offset: usize,
 ) -> Answer
-    ensures { outcome (answer_said result) (before p0 p1 p2 p3 picture) ≡ vram_step (before p0 p1 p2 p3 picture) (peek_u8 plane offset) }
+    ensures { outcome (answer_said result) (mem p0.now p1.now p2.now p3.now picture.now) ≡ vram_step (mem p0.now p1.now p2.now p3.now picture.now) (peek_u8 plane offset) }
 {
     let answer = vram::peek_u8(p0, p1, p2, p3, picture, plane, PlaneOffset(offset));
     of_byte(answer)
@@ -48,7 +48,7 @@ pub fn iddesmar_vram_read_glyph(
     picture: &[u8],
     offset: usize,
 ) -> Answer
-    ensures { outcome (answer_said result) (before p0 p1 p2 p3 picture) ≡ vram_step (before p0 p1 p2 p3 picture) (read_glyph offset) }
+    ensures { outcome (answer_said result) (mem p0.now p1.now p2.now p3.now picture.now) ≡ vram_step (mem p0.now p1.now p2.now p3.now picture.now) (read_glyph offset) }
 {
     let answer = vram::read_glyph(p0, p1, p2, p3, picture, PlaneOffset(offset));
     of_byte(answer)
@@ -62,7 +62,7 @@ pub fn iddesmar_vram_read_linear(
     picture: &[u8],
     place: usize,
 ) -> Answer
-    ensures { outcome (pixel_answer_said result) (before p0 p1 p2 p3 picture) ≡ vram_step (before p0 p1 p2 p3 picture) (read_linear place) }
+    ensures { outcome (pixel_answer_said result) (mem p0.now p1.now p2.now p3.now picture.now) ≡ vram_step (mem p0.now p1.now p2.now p3.now picture.now) (read_linear place) }
 {
     let answer = vram::read_linear(p0, p1, p2, p3, picture, PixelPlace(place));
     of_pixel(answer)
@@ -76,7 +76,7 @@ pub fn iddesmar_vram_serialize_linear(
     picture: &[u8],
     offset: usize,
 ) -> Shown
-    ensures { result ≡ shown_of (vram_step (before p0 p1 p2 p3 picture) (serialize_linear offset)).answer }
+    ensures { result ≡ shown_of (vram_step (mem p0.now p1.now p2.now p3.now picture.now) (serialize_linear offset)).answer }
 {
     let mut number = 0u8;
     let part = vram::serialize_linear(p0, p1, p2, p3, picture, PlaneOffset(offset), &mut number);

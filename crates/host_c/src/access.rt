@@ -1,6 +1,6 @@
 // The processor's accesses, both records lent: a read and a write update the controller's where it stands, and the other three leave it alone.
 ghost use Rattle.std.specs.Prelude.{◌≡◌, []};
-ghost use Rattle.machine.specs.Memory.{mem, before};
+ghost use Rattle.machine.specs.Memory.{mem};
 ghost use Rattle.machine.specs.Answers.{one, part, changes, shown, no_pixels, outcome};
 ghost use Rattle.machine.specs.Graphics.{shift_mode};
 ghost use Rattle.machine.specs.Calls.{cpu_read, cpu_peek, cpu_write, serialize, show_pixels};
@@ -24,8 +24,8 @@ pub extern "C" fn iddesmar_gc_cpu_read_u8_2(
     address: usize,
     page: u8,
 ) -> Answer
-    ensures { outcome (answer_said result) (held gc.new (before p0 p1 p2 p3 picture))
-        ≡ cpu_hosted gc.old seq.now (before p0 p1 p2 p3 picture) (one 0) (cpu_read address (is_set page)) }
+    ensures { outcome (answer_said result) (held gc.new (mem p0.now p1.now p2.now p3.now picture.now))
+        ≡ cpu_hosted gc.old seq.now (mem p0.now p1.now p2.now p3.now picture.now) (one 0) (cpu_read address (is_set page)) }
 {
     host::access::iddesmar_gc_cpu_read_u8_2(gc, seq, p0, p1, p2, p3, picture, address, page)
 }
@@ -62,8 +62,8 @@ pub extern "C" fn iddesmar_gc_cpu_peek_u8_2(
     address: usize,
     page: u8,
 ) -> Answer
-    ensures { outcome (answer_said result) (held gc.now (before p0 p1 p2 p3 picture))
-        ≡ cpu_hosted gc.now seq.now (before p0 p1 p2 p3 picture) (one 0) (cpu_peek address (is_set page)) }
+    ensures { outcome (answer_said result) (held gc.now (mem p0.now p1.now p2.now p3.now picture.now))
+        ≡ cpu_hosted gc.now seq.now (mem p0.now p1.now p2.now p3.now picture.now) (one 0) (cpu_peek address (is_set page)) }
 {
     host::access::iddesmar_gc_cpu_peek_u8_2(gc, seq, p0, p1, p2, p3, picture, address, page)
 }
@@ -80,7 +80,7 @@ pub extern "C" fn iddesmar_gc_serialize_2(
     picture: &[u8],
     offset: usize,
 ) -> Shown
-    ensures { result ≡ shown_of (cpu_hosted gc.now seq.now (before p0 p1 p2 p3 picture) (part []) (serialize offset)).answer }
+    ensures { result ≡ shown_of (cpu_hosted gc.now seq.now (mem p0.now p1.now p2.now p3.now picture.now) (part []) (serialize offset)).answer }
 {
     host::access::iddesmar_gc_serialize_2(gc, seq, p0, p1, p2, p3, picture, offset)
 }
@@ -97,7 +97,7 @@ pub extern "C" fn iddesmar_gc_show_pixels_2(
     picture: &[u8],
     offset: usize,
 ) -> Shown
-    ensures { result ≡ pixels_shown (cpu_hosted gc.now seq.now (before p0 p1 p2 p3 picture)
+    ensures { result ≡ pixels_shown (cpu_hosted gc.now seq.now (mem p0.now p1.now p2.now p3.now picture.now)
         (shown (shift_mode (controller_of gc.now).registers) no_pixels) (show_pixels offset)).answer }
 {
     host::access::iddesmar_gc_show_pixels_2(gc, seq, p0, p1, p2, p3, picture, offset)

@@ -2,7 +2,7 @@
 #![tactic(auto)]
 
 ghost use Rattle.std.specs.Prelude.{◌≡◌, []};
-ghost use Rattle.machine.specs.Memory.{mem, before};
+ghost use Rattle.machine.specs.Memory.{mem};
 ghost use Rattle.machine.specs.Answers.{one, part, changes, shown, no_pixels, outcome};
 ghost use Rattle.machine.specs.Graphics.{read_mode, shift_mode, write_mode};
 ghost use Rattle.machine.specs.Calls.{read_counter, write_counter, cpu_read, cpu_peek, cpu_write, serialize, show_pixels, gc_reset, gc_write_address, gc_write_data, seq_write_address, seq_write_data};
@@ -39,8 +39,8 @@ pub fn read_of(
     address: usize,
     page: u8,
 ) -> ReadAnswer
-    ensures { (outcome (answer_said result.answer) (held (with_count result.counter (with_latches result.latches gc)) (before p0 p1 p2 p3 picture))
-        ≡ cpu_hosted gc seq (before p0 p1 p2 p3 picture) (one 0) (cpu_read address (is_set page)))
+    ensures { (outcome (answer_said result.answer) (held (with_count result.counter (with_latches result.latches gc)) (mem p0.now p1.now p2.now p3.now picture.now))
+        ≡ cpu_hosted gc seq (mem p0.now p1.now p2.now p3.now picture.now) (one 0) (cpu_read address (is_set page)))
         × (result.counter ≡ counter_of result.answer.number (read_counter (read_mode (controller_of gc).registers))) }
 {
     if !known(gc, seq) {
@@ -115,7 +115,7 @@ pub fn peek_of(
     address: usize,
     page: u8,
 ) -> Answer
-    ensures { outcome (answer_said result) (held gc (before p0 p1 p2 p3 picture)) ≡ cpu_hosted gc seq (before p0 p1 p2 p3 picture) (one 0) (cpu_peek address (is_set page)) }
+    ensures { outcome (answer_said result) (held gc (mem p0.now p1.now p2.now p3.now picture.now)) ≡ cpu_hosted gc seq (mem p0.now p1.now p2.now p3.now picture.now) (one 0) (cpu_peek address (is_set page)) }
 {
     if !known(gc, seq) {
         return unknown();
@@ -138,7 +138,7 @@ pub fn serialize_of(
     picture: &[u8],
     offset: usize,
 ) -> Shown
-    ensures { result ≡ shown_of (cpu_hosted gc seq (before p0 p1 p2 p3 picture) (part []) (serialize offset)).answer }
+    ensures { result ≡ shown_of (cpu_hosted gc seq (mem p0.now p1.now p2.now p3.now picture.now) (part []) (serialize offset)).answer }
 {
     if !known(gc, seq) {
         return unknown_shown();
@@ -171,7 +171,7 @@ pub fn show_of(
     picture: &[u8],
     offset: usize,
 ) -> Shown
-    ensures { result ≡ pixels_shown (cpu_hosted gc seq (before p0 p1 p2 p3 picture) (shown (shift_mode (controller_of gc).registers) no_pixels) (show_pixels offset)).answer }
+    ensures { result ≡ pixels_shown (cpu_hosted gc seq (mem p0.now p1.now p2.now p3.now picture.now) (shown (shift_mode (controller_of gc).registers) no_pixels) (show_pixels offset)).answer }
 {
     if !known(gc, seq) {
         return unknown_shown();
