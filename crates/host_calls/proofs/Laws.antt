@@ -161,8 +161,8 @@ module _ (g : ControllerRecord) (s : SequencerRecord) (m : Memory) (v : Value) (
   cpu-asked e g' s' i j a b f p = cpu-known e g' s' i j a b g' g m f (sym (ap (controller_record_of g.spare) i ∙ record-back g (known-gc g s e))) p
 
 -- the answer of a show, by value: of an older one, of one that serves every shift mode
-pub shown_of : {S : Type 0} (by : Said → Shown) (a : Said) (t : S) (o : Outcome S) (r : Shown) → r ≡ by a → outcome a t ≡ o → r ≡ by o.answer
-shown_of {S = S} by a t o r f p = f ∙ ap (λ (o : Outcome S). by o.answer) p
+pub shown-by : {S : Type 0} (by : Said → Shown) (a : Said) (t : S) (o : Outcome S) (r : Shown) → r ≡ by a → outcome a t ≡ o → r ≡ by o.answer
+shown-by {S = S} by a t o r f p = f ∙ ap (λ (o : Outcome S). by o.answer) p
 
 -- the answer of a store, by value, and what it leaves
 pub stored-as : {S : Type 0} (a : Said) (t : S) (o : Outcome S) (r : Stored) → r ≡ stored_of a → outcome a t ≡ o → StoredAs r t o
