@@ -3,11 +3,10 @@ use Prim.Native.Nat.{ℕ, zero, suc, ◌+◌, ◌/◌, ◌%◌, ◌^◌, ◌<◌
 use native.Mathlib.Omega.{arith}
 use mathlib.Core.Logic.{◌≢◌}
 use mathlib.Core.Path.{◌≡◌, refl, sym, ap, ap₂, subst, ◌∙◌}
-use mathlib.Core.Bool.{Bool, true, false, not}
+use mathlib.Core.Bool.{Bool, true, false}
 use mathlib.Core.List.{List, [], ◌∷◌}
 use lib.Bits.{bit_and, and_mask}
 use lib.ListN.{get_or}
-use borrow.Author.Tests.{not-true, not-false}
 use Rattle.bits.specs.Bit.{field}
 use Rattle.machine_types.specs.declared.gc.GraphicsController.{GraphicsController}
 use Rattle.machine_types.specs.declared.gc.GraphicsRegisters.{GraphicsRegisters}
@@ -33,12 +32,12 @@ use Rattle.host_records.specs.Records.{with_stats, with_latches, with_count, cou
 use Rattle.host_records.proofs.Laws.{record-back, known-gc, left-lifted, data-stored, register-kept}
 use Rattle.host_calls.specs.Hosted.{held, held_of, sequencer_hosted, direct_hosted, graphics_hosted, cpu_hosted}
 
--- what a test of a record says, asked for negated as the code does
-pub unknown-of : {b k : Bool} → not b ≡ true → b ≡ k → false ≡ k
-unknown-of {b = b} h e = sym (not-true b h) ∙ e
+-- what a test of a record says
+pub unknown-of : {b k : Bool} → b ≡ false → b ≡ k → false ≡ k
+unknown-of h e = sym h ∙ e
 
-pub known_of : {b k : Bool} → not b ≡ false → b ≡ k → true ≡ k
-known_of {b = b} h e = sym (not-false b h) ∙ e
+pub known_of : {b k : Bool} → b ≡ true → b ≡ k → true ≡ k
+known_of h e = sym h ∙ e
 
 -- ---- calls on the sequencer's record
 
