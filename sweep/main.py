@@ -65,13 +65,14 @@ def definition_edits(crate):
     types = texts.typed(whole)
     fields = {}
     for c in (*tries.below(crate), crate):
-        fields |= {r: {n if '_' not in n else f'«{n}»': t for n, t in its.items()} for r, its in texts.declared(f'crates/{c}')[0].items()}
+        fields |= texts.declared(f'crates/{c}')[0]
     for text in whole:
         fields |= texts.record_fields(text)
     files = []
     for path, text in zip(paths, whole):
         names, groups = texts.imported(text)
         scope = {n: ' → '.join(t) for n, t in types.items() if n in names or f'\n  {n} ' in text or f'pub {n} :' in text}
+        scope = {n: t for n, t in scope.items() if n[0].islower() or t.endswith('Type 0')}  # a capital is a predicate's, or a constructor's
         tables = SimpleNamespace(fields=fields, groups=groups, scope=scope)
         files.append(edits.edits_of(path, text, texts.antt_parts(text, types), edits.antt_rules, tables, f'{area_of(crate)}/{path.stem}'))
     return files

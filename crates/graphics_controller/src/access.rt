@@ -1,6 +1,6 @@
 // The processor's accesses: each judged once, then read or written through the latches, and counted, refused or not.
 ghost use Rattle.std.specs.Prelude.{◌≡◌, ◌<◌, ◌≤◌, length};
-ghost use Rattle.machine.specs.Memory.{lent, before, after, Shaped};
+ghost use Rattle.machine.specs.Memory.{mem, Shaped};
 ghost use Rattle.machine.specs.Answers.{refusal_number, said, one, outcome, byte_said, changed_value, store_said};
 ghost use Rattle.machine.specs.Graphics.{gc_of, read_mode, write_mode};
 ghost use Rattle.machine.specs.Deeds.{loaded};
@@ -24,8 +24,8 @@ use vram_planes::inner::byte as plane_byte;
 
 // The four planes' bytes at an offset.
 fn load(p0: &[u8], p1: &[u8], p2: &[u8], p3: &[u8], picture: &[u8], at: usize) -> [u8; 4]
-    requires { Shaped (lent p0 p1 p2 p3 picture) × (at < length p0.now) }
-    ensures { result ≡ loaded (before p0 p1 p2 p3 picture) at }
+    requires { Shaped (mem p0.now p1.now p2.now p3.now picture.now) × (at < length p0.now) }
+    ensures { result ≡ loaded (mem p0.now p1.now p2.now p3.now picture.now) at }
 {
     [p0[at], p1[at], p2[at], p3[at]]
 }
@@ -102,7 +102,8 @@ pub fn cpu_read_u8(
     address: usize,
     page: bool,
 ) -> CpuByte
-    ensures { outcome (byte_said result.answer) (device result.gc (before p0 p1 p2 p3 picture)) ≡ cpu_step gc seq (before p0 p1 p2 p3 picture) (cpu_read address page) }
+    ensures { outcome (byte_said result.answer) (device result.gc (mem p0.now p1.now p2.now p3.now picture.now))
+        ≡ cpu_step gc seq (mem p0.now p1.now p2.now p3.now picture.now) (cpu_read address page) }
 {
     let registers = gc.registers;
     let shape = Shape::of(p0.len(), p1.len(), p2.len(), p3.len(), picture.len());
@@ -134,7 +135,7 @@ pub fn cpu_peek_u8(
     address: usize,
     page: bool,
 ) -> ByteAnswer
-    ensures { outcome (byte_said result) (device gc (before p0 p1 p2 p3 picture)) ≡ cpu_step gc seq (before p0 p1 p2 p3 picture) (cpu_peek address page) }
+    ensures { outcome (byte_said result) (device gc (mem p0.now p1.now p2.now p3.now picture.now)) ≡ cpu_step gc seq (mem p0.now p1.now p2.now p3.now picture.now) (cpu_peek address page) }
 {
     let registers = gc.registers;
     let shape = Shape::of(p0.len(), p1.len(), p2.len(), p3.len(), picture.len());
@@ -183,7 +184,8 @@ pub fn cpu_write_u8(
     page: bool,
     byte: u8,
 ) -> CpuStore
-    ensures { outcome (store_said result.answer) (device result.gc (after p0 p1 p2 p3 picture)) ≡ cpu_step gc seq (before p0 p1 p2 p3 picture) (cpu_write address page byte) }
+    ensures { outcome (store_said result.answer) (device result.gc (mem p0.new p1.new p2.new p3.new picture.new))
+        ≡ cpu_step gc seq (mem p0.old p1.old p2.old p3.old picture.old) (cpu_write address page byte) }
 {
     let registers = gc.registers;
     let shape = Shape::of(p0.len(), p1.len(), p2.len(), p3.len(), picture.len());

@@ -1,6 +1,6 @@
 // The two shows of an offset's eight pixels: the older one hands back the caller's own part of the picture; the other serves every shift mode, by value.
 ghost use Rattle.std.specs.Prelude.{◌≡◌};
-ghost use Rattle.machine.specs.Memory.{before};
+ghost use Rattle.machine.specs.Memory.{mem};
 ghost use Rattle.machine.specs.Answers.{outcome, part_said, shown_said};
 ghost use Rattle.machine.specs.Graphics.{shift_mode};
 ghost use Rattle.machine.specs.Calls.{serialize as serializes, show_pixels};
@@ -21,7 +21,8 @@ pub fn serialize<'a, 'b, 'c, 'd, 'p, 'n>(
     offset: PlaneOffset,
     number: &'n mut u8,
 ) -> &'p [u8]
-    ensures { outcome (part_said number.new result.now) (device gc (before p0 p1 p2 p3 picture)) ≡ cpu_step gc seq (before p0 p1 p2 p3 picture) (serializes offset.0) }
+    ensures { outcome (part_said number.new result.now) (device gc (mem p0.now p1.now p2.now p3.now picture.now))
+        ≡ cpu_step gc seq (mem p0.now p1.now p2.now p3.now picture.now) (serializes offset.0) }
 {
     let shape = Shape::of(p0.len(), p1.len(), p2.len(), p3.len(), picture.len());
     match judge_show(gc.registers, seq, shape, offset) {
@@ -47,7 +48,8 @@ pub fn show_pixels(
     picture: &[u8],
     offset: PlaneOffset,
 ) -> ShownPixels
-    ensures { outcome (shown_said (shift_mode gc.registers) result) (device gc (before p0 p1 p2 p3 picture)) ≡ cpu_step gc seq (before p0 p1 p2 p3 picture) (show_pixels offset.0) }
+    ensures { outcome (shown_said (shift_mode gc.registers) result) (device gc (mem p0.now p1.now p2.now p3.now picture.now))
+        ≡ cpu_step gc seq (mem p0.now p1.now p2.now p3.now picture.now) (show_pixels offset.0) }
 {
     let registers = gc.registers;
     let shape = Shape::of(p0.len(), p1.len(), p2.len(), p3.len(), picture.len());

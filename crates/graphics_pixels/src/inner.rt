@@ -1,6 +1,6 @@
 // What the crates above may call, and a host may not: functions that ask something of their caller, who has judged the offset.
 ghost use Rattle.std.specs.Prelude.{◌≡◌, [], ◌∷◌, ◌*◌, ◌/◌, ◌+◌, ◌<◌, ◌≤◌, length, get_or, take, drop};
-ghost use Rattle.machine.specs.Memory.{lent, before, Shaped};
+ghost use Rattle.machine.specs.Memory.{mem, Shaped};
 ghost use Rattle.machine.specs.Answers.{done_said};
 ghost use Rattle.machine.specs.Deeds.{eight as eight_of, nibble, pair, shown_in};
 ghost use Rattle.machine.specs.Calls.{last_shown};
@@ -53,8 +53,8 @@ fn copied(picture: &[u8], offset: PlaneOffset) -> [u8; 8]
 
 // `Chain4`: pixels 2i and 2i + 1 from plane i.
 fn chain4(p0: &[u8], p1: &[u8], p2: &[u8], p3: &[u8], picture: &[u8], at: usize) -> [u8; 8]
-    requires { Shaped (lent p0 p1 p2 p3 picture) × (at < length p0.now) }
-    ensures { result ≡ shown_in ShiftMode.Chain4 (before p0 p1 p2 p3 picture) at }
+    requires { Shaped (mem p0.now p1.now p2.now p3.now picture.now) × (at < length p0.now) }
+    ensures { result ≡ shown_in ShiftMode.Chain4 (mem p0.now p1.now p2.now p3.now picture.now) at }
 {
     let b0 = plane_byte(p0, p1, p2, p3, picture, 0, at);
     let b1 = plane_byte(p0, p1, p2, p3, picture, 1, at);
@@ -65,8 +65,8 @@ fn chain4(p0: &[u8], p1: &[u8], p2: &[u8], p3: &[u8], picture: &[u8], at: usize)
 
 // `CGACompatible`: four pixels from plane 0, then four from plane 1 at the next offset.
 fn cga(p0: &[u8], p1: &[u8], p2: &[u8], p3: &[u8], picture: &[u8], at: usize) -> [u8; 8]
-    requires { Shaped (lent p0 p1 p2 p3 picture) × (at + 1 < length p0.now) }
-    ensures { result ≡ shown_in ShiftMode.CGACompatible (before p0 p1 p2 p3 picture) at }
+    requires { Shaped (mem p0.now p1.now p2.now p3.now picture.now) × (at + 1 < length p0.now) }
+    ensures { result ≡ shown_in ShiftMode.CGACompatible (mem p0.now p1.now p2.now p3.now picture.now) at }
 {
     let first = plane_byte(p0, p1, p2, p3, picture, 0, at);
     let second = plane_byte(p0, p1, p2, p3, picture, 1, at + 1);
@@ -94,8 +94,8 @@ pub fn shown(
     picture: &[u8],
     offset: PlaneOffset,
 ) -> ShownPixels
-    requires { Shaped (lent p0 p1 p2 p3 picture) × (last_shown mode offset.0 < length p0.now) }
-    ensures { ((done_said result.answer).number ≡ 0) × (result.pixels ≡ shown_in mode (before p0 p1 p2 p3 picture) offset.0) }
+    requires { Shaped (mem p0.now p1.now p2.now p3.now picture.now) × (last_shown mode offset.0 < length p0.now) }
+    ensures { ((done_said result.answer).number ≡ 0) × (result.pixels ≡ shown_in mode (mem p0.now p1.now p2.now p3.now picture.now) offset.0) }
 {
     let at = offset.0;
     match mode {

@@ -1,7 +1,7 @@
 // A write's planes: which are stored, their bytes laid plane by plane, and the offset's eight pixels remade once.
 ghost use Rattle.std.specs.Prelude.{◌≡◌, true, ◌<◌, ◌≤◌, eqb, length};
 ghost use Rattle.bits.specs.Bit.{bit, is_one, pick};
-ghost use Rattle.machine.specs.Memory.{lent, before, after, Shaped};
+ghost use Rattle.machine.specs.Memory.{mem, Shaped};
 ghost use Rattle.machine.specs.Answers.{changes_of, changed_value};
 ghost use Rattle.machine.specs.Graphics.{write_mode};
 ghost use Rattle.machine.specs.Sequencer.{fits_seq, stored_at};
@@ -67,9 +67,9 @@ fn visit_plane(
     plane: usize,
     at: usize,
 ) -> u8
-    requires { Shaped (lent p0 p1 p2 p3 picture) × ((at < length p0.old) × (plane ≤ 3)) }
-    ensures { (after p0 p1 p2 p3 picture ≡ pick (is_one (bit plane planes)) (laid at (λ q. eqb q plane) (λ q. latch bytes plane) (before p0 p1 p2 p3 picture)) (before p0 p1 p2 p3 picture))
-        × (result ≡ changed_at (before p0 p1 p2 p3 picture) (after p0 p1 p2 p3 picture) at plane) }
+    requires { Shaped (mem p0.old p1.old p2.old p3.old picture.now) × ((at < length p0.old) × (plane ≤ 3)) }
+    ensures { (mem p0.new p1.new p2.new p3.new picture.now ≡ pick (is_one (bit plane planes)) (laid at (λ q. eqb q plane) (λ q. latch bytes plane) (mem p0.old p1.old p2.old p3.old picture.now)) (mem p0.old p1.old p2.old p3.old picture.now))
+        × (result ≡ changed_at (mem p0.old p1.old p2.old p3.old picture.now) (mem p0.new p1.new p2.new p3.new picture.now) at plane) }
 {
     if planes & (1 << plane) != 0 {
         return vram_planes::inner::lay(
@@ -98,9 +98,9 @@ fn visit(
     bytes: [u8; 4],
     at: usize,
 ) -> Changed
-    requires { Shaped (lent p0 p1 p2 p3 picture) × (at < length p0.old) }
-    ensures { (after p0 p1 p2 p3 picture ≡ laid at (λ p. is_one (bit p planes)) (latch bytes) (before p0 p1 p2 p3 picture))
-        × (changed_value result ≡ changes_of (changed_at (before p0 p1 p2 p3 picture) (after p0 p1 p2 p3 picture) at)) }
+    requires { Shaped (mem p0.old p1.old p2.old p3.old picture.now) × (at < length p0.old) }
+    ensures { (mem p0.new p1.new p2.new p3.new picture.now ≡ laid at (λ p. is_one (bit p planes)) (latch bytes) (mem p0.old p1.old p2.old p3.old picture.now))
+        × (changed_value result ≡ changes_of (changed_at (mem p0.old p1.old p2.old p3.old picture.now) (mem p0.new p1.new p2.new p3.new picture.now) at)) }
 {
     let mut changed = [0u8; 4];
     for plane in 0..4usize {
@@ -128,9 +128,9 @@ pub fn write_planes(
     address: usize,
     byte: u8,
 ) -> Changed
-    requires { Shaped (lent p0 p1 p2 p3 picture) × ((at < length p0.old) × ((fits_seq seq ≡ true) × (a0 ≡ bit0 address))) }
-    ensures { (after p0 p1 p2 p3 picture ≡ memory_after (write_deed (write_mode gc.registers) gc.registers seq address at byte) gc.latches (before p0 p1 p2 p3 picture))
-        × (changed_value result ≡ changes_of (changed_at (before p0 p1 p2 p3 picture) (after p0 p1 p2 p3 picture) (stored_at seq at))) }
+    requires { Shaped (mem p0.old p1.old p2.old p3.old picture.old) × ((at < length p0.old) × ((fits_seq seq ≡ true) × (a0 ≡ bit0 address))) }
+    ensures { (mem p0.new p1.new p2.new p3.new picture.new ≡ memory_after (write_deed (write_mode gc.registers) gc.registers seq address at byte) gc.latches (mem p0.old p1.old p2.old p3.old picture.old))
+        × (changed_value result ≡ changes_of (changed_at (mem p0.old p1.old p2.old p3.old picture.old) (mem p0.new p1.new p2.new p3.new picture.new) (stored_at seq at))) }
 {
     let registers = gc.registers;
     let target = target_of(registers, seq, at, a0, address);

@@ -1,7 +1,5 @@
 -- The lent memory: four planes of n bytes each, and a picture of 8n bytes, one per pixel.
 use Rattle.std.specs.Prelude.{ℕ, zero, suc, ◌*◌, ◌<◌, ◌≤◌, ◌≡◌, Bool, ◌&&◌, List, [], eqb, ltb, leb, length}
-use Rattle.std.specs.Borrow.{Bor}
-use denote.Triple.Both.{Both}
 use Rattle.machine_types.specs.declared.shape.Shape.{Shape}
 
 -- the four planes and the picture, as lists of bytes
@@ -59,19 +57,3 @@ pub record Sound (h : Shape) : Type 0 where
 -- .. of a memory: what an inner function asks of its caller
 abbrev pub Shaped : Memory → Type 0
 Shaped m = Sound (shape m)
-
--- the memory behind five lent slices: as they stand, where a call begins, where it returns
-abbrev pub lent : Bor (List ℕ) → Bor (List ℕ) → Bor (List ℕ) → Bor (List ℕ) → Bor (List ℕ) → Memory
-lent a b c d e = mem a.now b.now c.now d.now e.now
-
--- a lent slice: what it holds where a call begins and where it returns
-abbrev pub Slice : Type 0
-Slice = Both (Bor (List ℕ)) (Bor (List ℕ))
-
--- where a call begins
-abbrev pub before : Slice → Slice → Slice → Slice → Slice → Memory
-before a b c d e = lent a.entry b.entry c.entry d.entry e.entry
-
--- where a call returns
-abbrev pub after : Slice → Slice → Slice → Slice → Slice → Memory
-after a b c d e = lent a.exit b.exit c.exit d.exit e.exit

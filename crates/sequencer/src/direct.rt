@@ -1,6 +1,6 @@
 // The sequencer's own stores, which go through the plane mask.
 ghost use Rattle.std.specs.Prelude.{◌≡◌, true, [], ◌<◌, ◌≤◌, length};
-ghost use Rattle.machine.specs.Memory.{lent, before, after, Shaped};
+ghost use Rattle.machine.specs.Memory.{mem, Shaped};
 ghost use Rattle.machine.specs.Answers.{changes_of, changed_value, outcome, store_said};
 ghost use Rattle.machine.specs.Deeds.{changed_at, memory_after};
 ghost use Rattle.machine.specs.Sequencer.{fits_seq, in_mask, stored_at};
@@ -30,9 +30,9 @@ fn store_masked(
     kind: PlaneStore,
     byte: u8,
 ) -> Changed
-    requires { Shaped (lent p0 p1 p2 p3 picture) × ((offset < length p0.old) × ((plane ≤ 3) × (fits_seq seq ≡ true))) }
-    ensures { (after p0 p1 p2 p3 picture ≡ memory_after (store_one (store_bit kind) plane (stored_at seq offset) (in_mask seq offset a0) byte) [] (before p0 p1 p2 p3 picture))
-        × (changed_value result ≡ changes_of (changed_at (before p0 p1 p2 p3 picture) (after p0 p1 p2 p3 picture) (stored_at seq offset))) }
+    requires { Shaped (mem p0.old p1.old p2.old p3.old picture.old) × ((offset < length p0.old) × ((plane ≤ 3) × (fits_seq seq ≡ true))) }
+    ensures { (mem p0.new p1.new p2.new p3.new picture.new ≡ memory_after (store_one (store_bit kind) plane (stored_at seq offset) (in_mask seq offset a0) byte) [] (mem p0.old p1.old p2.old p3.old picture.old))
+        × (changed_value result ≡ changes_of (changed_at (mem p0.old p1.old p2.old p3.old picture.old) (mem p0.new p1.new p2.new p3.new picture.new) (stored_at seq offset))) }
 {
     let mask = inner::mask(seq, offset, a0);
     if mask & (1 << plane) != 0 {
@@ -56,7 +56,8 @@ fn plane_store(
     kind: PlaneStore,
     byte: u8,
 ) -> StoreAnswer
-    ensures { outcome (store_said result) (after p0 p1 p2 p3 picture) ≡ direct_step seq (before p0 p1 p2 p3 picture) (direct_store_call kind plane offset.0 a0 byte) }
+    ensures { outcome (store_said result) (mem p0.new p1.new p2.new p3.new picture.new)
+        ≡ direct_step seq (mem p0.old p1.old p2.old p3.old picture.old) (direct_store_call kind plane offset.0 a0 byte) }
 {
     let shape = Shape::of(p0.len(), p1.len(), p2.len(), p3.len(), picture.len());
     match judge_direct(seq, shape, plane, offset) {
@@ -82,7 +83,7 @@ pub fn plane_set(
     a0: bool,
     byte: u8,
 ) -> StoreAnswer
-    ensures { outcome (store_said result) (after p0 p1 p2 p3 picture) ≡ direct_step seq (before p0 p1 p2 p3 picture) (seq_plane_set plane offset.0 a0 byte) }
+    ensures { outcome (store_said result) (mem p0.new p1.new p2.new p3.new picture.new) ≡ direct_step seq (mem p0.old p1.old p2.old p3.old picture.old) (seq_plane_set plane offset.0 a0 byte) }
 {
     let kind = PlaneStore::Set;
     plane_store(seq, p0, p1, p2, p3, picture, plane, offset, a0, kind, byte)
@@ -101,7 +102,7 @@ pub fn plane_and(
     a0: bool,
     byte: u8,
 ) -> StoreAnswer
-    ensures { outcome (store_said result) (after p0 p1 p2 p3 picture) ≡ direct_step seq (before p0 p1 p2 p3 picture) (seq_plane_and plane offset.0 a0 byte) }
+    ensures { outcome (store_said result) (mem p0.new p1.new p2.new p3.new picture.new) ≡ direct_step seq (mem p0.old p1.old p2.old p3.old picture.old) (seq_plane_and plane offset.0 a0 byte) }
 {
     let kind = PlaneStore::And;
     plane_store(seq, p0, p1, p2, p3, picture, plane, offset, a0, kind, byte)
@@ -120,7 +121,7 @@ pub fn plane_or(
     a0: bool,
     byte: u8,
 ) -> StoreAnswer
-    ensures { outcome (store_said result) (after p0 p1 p2 p3 picture) ≡ direct_step seq (before p0 p1 p2 p3 picture) (seq_plane_or plane offset.0 a0 byte) }
+    ensures { outcome (store_said result) (mem p0.new p1.new p2.new p3.new picture.new) ≡ direct_step seq (mem p0.old p1.old p2.old p3.old picture.old) (seq_plane_or plane offset.0 a0 byte) }
 {
     let kind = PlaneStore::Or;
     plane_store(seq, p0, p1, p2, p3, picture, plane, offset, a0, kind, byte)

@@ -2,7 +2,7 @@
 #![tactic(auto)]
 
 ghost use Rattle.std.specs.Prelude.{◌≡◌};
-ghost use Rattle.machine.specs.Memory.{before};
+ghost use Rattle.machine.specs.Memory.{mem};
 ghost use Rattle.machine.specs.Answers.{outcome, byte_said, pixel_said, part_said};
 ghost use Rattle.machine.specs.Calls.{seq_cpu_read_u8, seq_gc_read_u8, seq_peek_u8, seq_read_linear, seq_serialize_linear};
 ghost use Rattle.machine.specs.Step.{direct_step};
@@ -41,7 +41,7 @@ fn plane_read(
     a0: bool,
     kind: PlaneRead,
 ) -> ByteAnswer
-    ensures { outcome (byte_said result) (before p0 p1 p2 p3 picture) ≡ direct_step seq (before p0 p1 p2 p3 picture) (read_call kind plane offset.0 a0) }
+    ensures { outcome (byte_said result) (mem p0.now p1.now p2.now p3.now picture.now) ≡ direct_step seq (mem p0.now p1.now p2.now p3.now picture.now) (read_call kind plane offset.0 a0) }
 {
     let shape = Shape::of(p0.len(), p1.len(), p2.len(), p3.len(), picture.len());
     match judge_direct(seq, shape, plane, offset) {
@@ -65,7 +65,7 @@ pub fn cpu_read_u8(
     offset: PlaneOffset,
     a0: bool,
 ) -> ByteAnswer
-    ensures { outcome (byte_said result) (before p0 p1 p2 p3 picture) ≡ direct_step seq (before p0 p1 p2 p3 picture) (seq_cpu_read_u8 plane offset.0 a0) }
+    ensures { outcome (byte_said result) (mem p0.now p1.now p2.now p3.now picture.now) ≡ direct_step seq (mem p0.now p1.now p2.now p3.now picture.now) (seq_cpu_read_u8 plane offset.0 a0) }
 {
     let kind = PlaneRead::Cpu;
     plane_read(seq, p0, p1, p2, p3, picture, plane, offset, a0, kind)
@@ -83,7 +83,7 @@ pub fn gc_read_u8(
     offset: PlaneOffset,
     a0: bool,
 ) -> ByteAnswer
-    ensures { outcome (byte_said result) (before p0 p1 p2 p3 picture) ≡ direct_step seq (before p0 p1 p2 p3 picture) (seq_gc_read_u8 plane offset.0 a0) }
+    ensures { outcome (byte_said result) (mem p0.now p1.now p2.now p3.now picture.now) ≡ direct_step seq (mem p0.now p1.now p2.now p3.now picture.now) (seq_gc_read_u8 plane offset.0 a0) }
 {
     let kind = PlaneRead::Gc;
     plane_read(seq, p0, p1, p2, p3, picture, plane, offset, a0, kind)
@@ -101,7 +101,7 @@ pub fn peek_u8(
     offset: PlaneOffset,
     a0: bool,
 ) -> ByteAnswer
-    ensures { outcome (byte_said result) (before p0 p1 p2 p3 picture) ≡ direct_step seq (before p0 p1 p2 p3 picture) (seq_peek_u8 plane offset.0 a0) }
+    ensures { outcome (byte_said result) (mem p0.now p1.now p2.now p3.now picture.now) ≡ direct_step seq (mem p0.now p1.now p2.now p3.now picture.now) (seq_peek_u8 plane offset.0 a0) }
 {
     cpu_read_u8(seq, p0, p1, p2, p3, picture, plane, offset, a0)
 }
@@ -116,7 +116,7 @@ pub fn read_linear(
     picture: &[u8],
     place: PixelPlace,
 ) -> ByteAnswer
-    ensures { outcome (pixel_said result) (before p0 p1 p2 p3 picture) ≡ direct_step seq (before p0 p1 p2 p3 picture) (seq_read_linear place.0) }
+    ensures { outcome (pixel_said result) (mem p0.now p1.now p2.now p3.now picture.now) ≡ direct_step seq (mem p0.now p1.now p2.now p3.now picture.now) (seq_read_linear place.0) }
 {
     if !refusals_records::fits_seq(seq) {
         return ByteAnswer::Refused(Refusal::State);
@@ -135,7 +135,7 @@ pub fn serialize_linear<'a, 'b, 'c, 'd, 'p, 'n>(
     offset: PlaneOffset,
     number: &'n mut u8,
 ) -> &'p [u8]
-    ensures { outcome (part_said number.new result.now) (before p0 p1 p2 p3 picture) ≡ direct_step seq (before p0 p1 p2 p3 picture) (seq_serialize_linear offset.0) }
+    ensures { outcome (part_said number.new result.now) (mem p0.now p1.now p2.now p3.now picture.now) ≡ direct_step seq (mem p0.now p1.now p2.now p3.now picture.now) (seq_serialize_linear offset.0) }
 {
     if !refusals_records::fits_seq(seq) {
         *number = fields::refusal_number(Refusal::State);

@@ -1,6 +1,6 @@
 // A record performed: the calls that its command asks for, and what they answer.
 ghost use Rattle.std.specs.Prelude.{◌≡◌};
-ghost use Rattle.machine.specs.Memory.{before, after};
+ghost use Rattle.machine.specs.Memory.{mem};
 ghost use Rattle.machine.specs.Answers.{outcome, done_said};
 ghost use Rattle.machine.specs.Calls.{cpu_read, cpu_peek, cpu_write, show_pixels};
 ghost use Rattle.machine.specs.Step.{state, cpu, step};
@@ -54,7 +54,8 @@ fn read(
     address: usize,
     page: bool,
 ) -> Performed
-    ensures { outcome (told_said result.told) (state result.gc result.seq (before p0 p1 p2 p3 picture)) ≡ step (state gc seq (before p0 p1 p2 p3 picture)) (cpu (cpu_read address page)) }
+    ensures { outcome (told_said result.told) (state result.gc result.seq (mem p0.now p1.now p2.now p3.now picture.now))
+        ≡ step (state gc seq (mem p0.now p1.now p2.now p3.now picture.now)) (cpu (cpu_read address page)) }
 {
     let got = graphics_controller::cpu_read_u8(gc, seq, p0, p1, p2, p3, picture, address, page);
     let answer = got.answer;
@@ -77,7 +78,8 @@ fn peek(
     address: usize,
     page: bool,
 ) -> Performed
-    ensures { outcome (told_said result.told) (state result.gc result.seq (before p0 p1 p2 p3 picture)) ≡ step (state gc seq (before p0 p1 p2 p3 picture)) (cpu (cpu_peek address page)) }
+    ensures { outcome (told_said result.told) (state result.gc result.seq (mem p0.now p1.now p2.now p3.now picture.now))
+        ≡ step (state gc seq (mem p0.now p1.now p2.now p3.now picture.now)) (cpu (cpu_peek address page)) }
 {
     let answer = graphics_controller::cpu_peek_u8(gc, seq, p0, p1, p2, p3, picture, address, page);
     Performed {
@@ -99,7 +101,8 @@ fn write(
     page: bool,
     byte: u8,
 ) -> Performed
-    ensures { outcome (told_said result.told) (state result.gc result.seq (after p0 p1 p2 p3 picture)) ≡ step (state gc seq (before p0 p1 p2 p3 picture)) (cpu (cpu_write address page byte)) }
+    ensures { outcome (told_said result.told) (state result.gc result.seq (mem p0.new p1.new p2.new p3.new picture.new))
+        ≡ step (state gc seq (mem p0.old p1.old p2.old p3.old picture.old)) (cpu (cpu_write address page byte)) }
 {
     let wrote = graphics_controller::cpu_write_u8(
         gc, seq, p0, p1, p2, p3, picture, address, page, byte,
@@ -124,7 +127,8 @@ fn show(
     picture: &[u8],
     offset: PlaneOffset,
 ) -> Performed
-    ensures { outcome (told_said result.told) (state result.gc result.seq (before p0 p1 p2 p3 picture)) ≡ step (state gc seq (before p0 p1 p2 p3 picture)) (cpu (show_pixels offset.0)) }
+    ensures { outcome (told_said result.told) (state result.gc result.seq (mem p0.now p1.now p2.now p3.now picture.now))
+        ≡ step (state gc seq (mem p0.now p1.now p2.now p3.now picture.now)) (cpu (show_pixels offset.0)) }
 {
     let mode = fields::gc::shift_mode(gc.registers);
     let shown = graphics_controller::show_pixels(gc, seq, p0, p1, p2, p3, picture, offset);
@@ -148,7 +152,8 @@ pub fn perform(
     picture: &mut [u8],
     command: Command,
 ) -> Performed
-    ensures { outcome (told_said result.told) (state result.gc result.seq (after p0 p1 p2 p3 picture)) ≡ performed (state gc seq (before p0 p1 p2 p3 picture)) command }
+    ensures { outcome (told_said result.told) (state result.gc result.seq (mem p0.new p1.new p2.new p3.new picture.new))
+        ≡ performed (state gc seq (mem p0.old p1.old p2.old p3.old picture.old)) command }
 {
     match command {
         Command::Reset => Performed {

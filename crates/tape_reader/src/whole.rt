@@ -1,6 +1,6 @@
 // A whole tape, record by record: each record's line goes into a lent slice.
 ghost use Rattle.std.specs.Prelude.{◌≡◌, ◌≤◌, length};
-ghost use Rattle.machine.specs.Memory.{lent, before, after};
+ghost use Rattle.machine.specs.Memory.{mem};
 ghost use Rattle.machine.specs.Step.{state};
 ghost use Rattle.tape_machine.specs.Told.{told_said};
 ghost use Rattle.tape_machine.specs.Run.{operation_number, fault_said, records_of, lines_of, tape_run, ended_of, played_of, run_of};
@@ -75,8 +75,8 @@ fn play(
     picture: &mut [u8],
     out: &mut [u8],
 ) -> Ran
-    requires { length (lines_of 1 (state first_gc first_seq (lent p0 p1 p2 p3 picture)) (records_of tape.now)) ≤ length out.old }
-    ensures { tape_run result (after p0 p1 p2 p3 picture) out.new ≡ played_of tape.now (state first_gc first_seq (before p0 p1 p2 p3 picture)) out.old }
+    requires { length (lines_of 1 (state first_gc first_seq (mem p0.old p1.old p2.old p3.old picture.old)) (records_of tape.now)) ≤ length out.old }
+    ensures { tape_run result (mem p0.new p1.new p2.new p3.new picture.new) out.new ≡ played_of tape.now (state first_gc first_seq (mem p0.old p1.old p2.old p3.old picture.old)) out.old }
 {
     let mut at: usize = 0;
     let mut number: u64 = 1;
@@ -116,7 +116,7 @@ pub fn run(
     picture: &mut [u8],
     out: &mut [u8],
 ) -> Ran
-    ensures { tape_run result (after p0 p1 p2 p3 picture) out.new ≡ run_of tape.now (state gc seq (before p0 p1 p2 p3 picture)) out.old }
+    ensures { tape_run result (mem p0.new p1.new p2.new p3.new picture.new) out.new ≡ run_of tape.now (state gc seq (mem p0.old p1.old p2.old p3.old picture.old)) out.old }
 {
     if out.len() / LONGEST < tape.len() {
         return Ran {

@@ -2,7 +2,7 @@
 #![tactic(auto)]
 
 ghost use Rattle.std.specs.Prelude.{◌≡◌};
-ghost use Rattle.machine.specs.Memory.{before, after};
+ghost use Rattle.machine.specs.Memory.{mem};
 ghost use Rattle.machine.specs.Answers.{outcome, store_said, done_said};
 ghost use Rattle.machine.specs.Calls.{write_u8, deplane as remakes, plane_set, plane_and, plane_or};
 ghost use Rattle.machine.specs.Step.{vram_step};
@@ -24,7 +24,7 @@ pub fn write_u8(
     offset: PlaneOffset,
     byte: u8,
 ) -> StoreAnswer
-    ensures { outcome (store_said result) (after p0 p1 p2 p3 picture) ≡ vram_step (before p0 p1 p2 p3 picture) (write_u8 plane offset.0 byte) }
+    ensures { outcome (store_said result) (mem p0.new p1.new p2.new p3.new picture.new) ≡ vram_step (mem p0.old p1.old p2.old p3.old picture.old) (write_u8 plane offset.0 byte) }
 {
     plane_set(p0, p1, p2, p3, picture, plane, offset, byte)
 }
@@ -38,7 +38,7 @@ pub fn deplane(
     picture: &mut [u8],
     offset: PlaneOffset,
 ) -> DoneAnswer
-    ensures { outcome (done_said result) (after p0 p1 p2 p3 picture) ≡ vram_step (before p0 p1 p2 p3 picture) (remakes offset.0) }
+    ensures { outcome (done_said result) (mem p0.now p1.now p2.now p3.now picture.new) ≡ vram_step (mem p0.now p1.now p2.now p3.now picture.old) (remakes offset.0) }
 {
     let shape = Shape::of(p0.len(), p1.len(), p2.len(), p3.len(), picture.len());
     match refusals_memory::judge_offset(shape, offset) {
@@ -63,7 +63,7 @@ fn plane_store(
     kind: PlaneStore,
     byte: u8,
 ) -> StoreAnswer
-    ensures { outcome (store_said result) (after p0 p1 p2 p3 picture) ≡ vram_step (before p0 p1 p2 p3 picture) (vram_store_call kind plane offset.0 byte) }
+    ensures { outcome (store_said result) (mem p0.new p1.new p2.new p3.new picture.new) ≡ vram_step (mem p0.old p1.old p2.old p3.old picture.old) (vram_store_call kind plane offset.0 byte) }
 {
     let shape = Shape::of(p0.len(), p1.len(), p2.len(), p3.len(), picture.len());
     match refusals_memory::judge_plane(shape, plane, offset) {
@@ -87,7 +87,7 @@ pub fn plane_set(
     offset: PlaneOffset,
     byte: u8,
 ) -> StoreAnswer
-    ensures { outcome (store_said result) (after p0 p1 p2 p3 picture) ≡ vram_step (before p0 p1 p2 p3 picture) (plane_set plane offset.0 byte) }
+    ensures { outcome (store_said result) (mem p0.new p1.new p2.new p3.new picture.new) ≡ vram_step (mem p0.old p1.old p2.old p3.old picture.old) (plane_set plane offset.0 byte) }
 {
     let kind = PlaneStore::Set;
     plane_store(p0, p1, p2, p3, picture, plane, offset, kind, byte)
@@ -104,7 +104,7 @@ pub fn plane_and(
     offset: PlaneOffset,
     byte: u8,
 ) -> StoreAnswer
-    ensures { outcome (store_said result) (after p0 p1 p2 p3 picture) ≡ vram_step (before p0 p1 p2 p3 picture) (plane_and plane offset.0 byte) }
+    ensures { outcome (store_said result) (mem p0.new p1.new p2.new p3.new picture.new) ≡ vram_step (mem p0.old p1.old p2.old p3.old picture.old) (plane_and plane offset.0 byte) }
 {
     let kind = PlaneStore::And;
     plane_store(p0, p1, p2, p3, picture, plane, offset, kind, byte)
@@ -121,7 +121,7 @@ pub fn plane_or(
     offset: PlaneOffset,
     byte: u8,
 ) -> StoreAnswer
-    ensures { outcome (store_said result) (after p0 p1 p2 p3 picture) ≡ vram_step (before p0 p1 p2 p3 picture) (plane_or plane offset.0 byte) }
+    ensures { outcome (store_said result) (mem p0.new p1.new p2.new p3.new picture.new) ≡ vram_step (mem p0.old p1.old p2.old p3.old picture.old) (plane_or plane offset.0 byte) }
 {
     let kind = PlaneStore::Or;
     plane_store(p0, p1, p2, p3, picture, plane, offset, kind, byte)

@@ -1,6 +1,6 @@
 // What the crates above may call, and a host may not: functions that ask something of their caller, who has judged planes and offset.
 ghost use Rattle.std.specs.Prelude.{◌≡◌, ◌<◌, ◌≤◌, eqb, length};
-ghost use Rattle.machine.specs.Memory.{lent, before, after, Shaped};
+ghost use Rattle.machine.specs.Memory.{mem, Shaped};
 ghost use Rattle.machine.specs.Answers.{changes_of, changed_value};
 ghost use Rattle.machine.specs.Deeds.{byte as byte_of_plane, laid, remade, changed_at};
 ghost use Rattle.vram_planes.specs.Stores.{combines};
@@ -20,8 +20,8 @@ pub fn byte(
     plane: usize,
     at: usize,
 ) -> u8
-    requires { Shaped (lent p0 p1 p2 p3 picture) × ((at < length p0.now) × (plane ≤ 3)) }
-    ensures { result ≡ byte_of_plane (before p0 p1 p2 p3 picture) plane at }
+    requires { Shaped (mem p0.now p1.now p2.now p3.now picture.now) × ((at < length p0.now) × (plane ≤ 3)) }
+    ensures { result ≡ byte_of_plane (mem p0.now p1.now p2.now p3.now picture.now) plane at }
 {
     if plane == 0 {
         return p0[at];
@@ -58,9 +58,9 @@ pub fn lay(
     kind: PlaneStore,
     x: u8,
 ) -> u8
-    requires { Shaped (lent p0 p1 p2 p3 picture) × ((at < length p0.old) × (plane ≤ 3)) }
-    ensures { (after p0 p1 p2 p3 picture ≡ laid at (λ q. eqb q plane) (λ q. combines kind x (byte_of_plane (before p0 p1 p2 p3 picture) q at)) (before p0 p1 p2 p3 picture))
-        × (result ≡ changed_at (before p0 p1 p2 p3 picture) (after p0 p1 p2 p3 picture) at plane) }
+    requires { Shaped (mem p0.old p1.old p2.old p3.old picture.now) × ((at < length p0.old) × (plane ≤ 3)) }
+    ensures { (mem p0.new p1.new p2.new p3.new picture.now ≡ laid at (λ q. eqb q plane) (λ q. combines kind x (byte_of_plane (mem p0.old p1.old p2.old p3.old picture.now) q at)) (mem p0.old p1.old p2.old p3.old picture.now))
+        × (result ≡ changed_at (mem p0.old p1.old p2.old p3.old picture.now) (mem p0.new p1.new p2.new p3.new picture.now) at plane) }
 {
     if plane == 0 {
         let old = p0[at];
@@ -98,9 +98,9 @@ pub fn store(
     kind: PlaneStore,
     x: u8,
 ) -> Changed
-    requires { Shaped (lent p0 p1 p2 p3 picture) × ((at < length p0.old) × (plane ≤ 3)) }
-    ensures { (after p0 p1 p2 p3 picture ≡ remade at (laid at (λ q. eqb q plane) (λ q. combines kind x (byte_of_plane (before p0 p1 p2 p3 picture) q at)) (before p0 p1 p2 p3 picture)))
-        × (changed_value result ≡ changes_of (changed_at (before p0 p1 p2 p3 picture) (after p0 p1 p2 p3 picture) at)) }
+    requires { Shaped (mem p0.old p1.old p2.old p3.old picture.old) × ((at < length p0.old) × (plane ≤ 3)) }
+    ensures { (mem p0.new p1.new p2.new p3.new picture.new ≡ remade at (laid at (λ q. eqb q plane) (λ q. combines kind x (byte_of_plane (mem p0.old p1.old p2.old p3.old picture.old) q at)) (mem p0.old p1.old p2.old p3.old picture.old)))
+        × (changed_value result ≡ changes_of (changed_at (mem p0.old p1.old p2.old p3.old picture.old) (mem p0.new p1.new p2.new p3.new picture.new) at)) }
 {
     let number = lay(p0, p1, p2, p3, picture, plane, at, kind, x);
     remake(p0, p1, p2, p3, picture, at);

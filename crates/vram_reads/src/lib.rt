@@ -2,7 +2,7 @@
 #![tactic(auto)]
 
 ghost use Rattle.std.specs.Prelude.{◌≡◌};
-ghost use Rattle.machine.specs.Memory.{before};
+ghost use Rattle.machine.specs.Memory.{mem};
 ghost use Rattle.machine.specs.Answers.{outcome, byte_said, pixel_said, part_said};
 ghost use Rattle.machine.specs.Calls.{read_glyph, peek_u8, read_u8, read_linear, serialize_linear};
 ghost use Rattle.machine.specs.Step.{vram_step};
@@ -18,7 +18,7 @@ pub fn read_glyph(
     picture: &[u8],
     offset: PlaneOffset,
 ) -> ByteAnswer
-    ensures { outcome (byte_said result) (before p0 p1 p2 p3 picture) ≡ vram_step (before p0 p1 p2 p3 picture) (read_glyph offset.0) }
+    ensures { outcome (byte_said result) (mem p0.now p1.now p2.now p3.now picture.now) ≡ vram_step (mem p0.now p1.now p2.now p3.now picture.now) (read_glyph offset.0) }
 {
     let shape = Shape::of(p0.len(), p1.len(), p2.len(), p3.len(), picture.len());
     match refusals_memory::judge_offset(shape, offset) {
@@ -40,7 +40,7 @@ pub fn peek_u8(
     plane: usize,
     offset: PlaneOffset,
 ) -> ByteAnswer
-    ensures { outcome (byte_said result) (before p0 p1 p2 p3 picture) ≡ vram_step (before p0 p1 p2 p3 picture) (peek_u8 plane offset.0) }
+    ensures { outcome (byte_said result) (mem p0.now p1.now p2.now p3.now picture.now) ≡ vram_step (mem p0.now p1.now p2.now p3.now picture.now) (peek_u8 plane offset.0) }
 {
     read_u8(p0, p1, p2, p3, picture, plane, offset)
 }
@@ -55,7 +55,7 @@ pub fn read_u8(
     plane: usize,
     offset: PlaneOffset,
 ) -> ByteAnswer
-    ensures { outcome (byte_said result) (before p0 p1 p2 p3 picture) ≡ vram_step (before p0 p1 p2 p3 picture) (read_u8 plane offset.0) }
+    ensures { outcome (byte_said result) (mem p0.now p1.now p2.now p3.now picture.now) ≡ vram_step (mem p0.now p1.now p2.now p3.now picture.now) (read_u8 plane offset.0) }
 {
     let shape = Shape::of(p0.len(), p1.len(), p2.len(), p3.len(), picture.len());
     match refusals_memory::judge_plane(shape, plane, offset) {
@@ -76,7 +76,7 @@ pub fn read_linear(
     picture: &[u8],
     place: PixelPlace,
 ) -> ByteAnswer
-    ensures { outcome (pixel_said result) (before p0 p1 p2 p3 picture) ≡ vram_step (before p0 p1 p2 p3 picture) (read_linear place.0) }
+    ensures { outcome (pixel_said result) (mem p0.now p1.now p2.now p3.now picture.now) ≡ vram_step (mem p0.now p1.now p2.now p3.now picture.now) (read_linear place.0) }
 {
     let shape = Shape::of(p0.len(), p1.len(), p2.len(), p3.len(), picture.len());
     match refusals_memory::judge_place(shape, place) {
@@ -98,7 +98,7 @@ pub fn serialize_linear<'a, 'b, 'c, 'd, 'p, 'n>(
     offset: PlaneOffset,
     number: &'n mut u8,
 ) -> &'p [u8]
-    ensures { outcome (part_said number.new result.now) (before p0 p1 p2 p3 picture) ≡ vram_step (before p0 p1 p2 p3 picture) (serialize_linear offset.0) }
+    ensures { outcome (part_said number.new result.now) (mem p0.now p1.now p2.now p3.now picture.now) ≡ vram_step (mem p0.now p1.now p2.now p3.now picture.now) (serialize_linear offset.0) }
 {
     let shape = Shape::of(p0.len(), p1.len(), p2.len(), p3.len(), picture.len());
     match refusals_memory::judge_shown(shape, offset) {
