@@ -26,7 +26,8 @@ pub fn iddesmar_seq_cpu_read_u8(
     offset: usize,
     a0: u8,
 ) -> Answer
-    ensures { outcome (answer_said result) (mem p0.now p1.now p2.now p3.now picture.now) ≡ direct_hosted seq (mem p0.now p1.now p2.now p3.now picture.now) (one 0) (seq_cpu_read_u8 plane offset (is_set a0)) }
+    ensures { outcome (answer_said result) (mem p0.now p1.now p2.now p3.now picture.now)
+        ≡ direct_hosted seq (mem p0.now p1.now p2.now p3.now picture.now) (one 0) (seq_cpu_read_u8 plane offset (is_set a0)) }
 {
     if !known_sequencer(seq) {
         return unknown();
@@ -49,7 +50,8 @@ pub fn iddesmar_seq_peek_u8(
     offset: usize,
     a0: u8,
 ) -> Answer
-    ensures { outcome (answer_said result) (mem p0.now p1.now p2.now p3.now picture.now) ≡ direct_hosted seq (mem p0.now p1.now p2.now p3.now picture.now) (one 0) (seq_peek_u8 plane offset (is_set a0)) }
+    ensures { outcome (answer_said result) (mem p0.now p1.now p2.now p3.now picture.now)
+        ≡ direct_hosted seq (mem p0.now p1.now p2.now p3.now picture.now) (one 0) (seq_peek_u8 plane offset (is_set a0)) }
 {
     if !known_sequencer(seq) {
         return unknown();
@@ -72,7 +74,8 @@ pub fn iddesmar_seq_gc_read_u8(
     offset: usize,
     a0: u8,
 ) -> Answer
-    ensures { outcome (answer_said result) (mem p0.now p1.now p2.now p3.now picture.now) ≡ direct_hosted seq (mem p0.now p1.now p2.now p3.now picture.now) (one 0) (seq_gc_read_u8 plane offset (is_set a0)) }
+    ensures { outcome (answer_said result) (mem p0.now p1.now p2.now p3.now picture.now)
+        ≡ direct_hosted seq (mem p0.now p1.now p2.now p3.now picture.now) (one 0) (seq_gc_read_u8 plane offset (is_set a0)) }
 {
     if !known_sequencer(seq) {
         return unknown();

@@ -23,7 +23,8 @@ pub extern "C" fn iddesmar_seq_cpu_read_u8(
     offset: usize,
     a0: u8,
 ) -> Answer
-    ensures { outcome (answer_said result) (mem p0.now p1.now p2.now p3.now picture.now) ≡ direct_hosted seq (mem p0.now p1.now p2.now p3.now picture.now) (one 0) (seq_cpu_read_u8 plane offset (is_set a0)) }
+    ensures { outcome (answer_said result) (mem p0.now p1.now p2.now p3.now picture.now)
+        ≡ direct_hosted seq (mem p0.now p1.now p2.now p3.now picture.now) (one 0) (seq_cpu_read_u8 plane offset (is_set a0)) }
 {
     host::direct::iddesmar_seq_cpu_read_u8(seq, p0, p1, p2, p3, picture, plane, offset, a0)
 }
@@ -40,7 +41,8 @@ pub extern "C" fn iddesmar_seq_peek_u8(
     offset: usize,
     a0: u8,
 ) -> Answer
-    ensures { outcome (answer_said result) (mem p0.now p1.now p2.now p3.now picture.now) ≡ direct_hosted seq (mem p0.now p1.now p2.now p3.now picture.now) (one 0) (seq_peek_u8 plane offset (is_set a0)) }
+    ensures { outcome (answer_said result) (mem p0.now p1.now p2.now p3.now picture.now)
+        ≡ direct_hosted seq (mem p0.now p1.now p2.now p3.now picture.now) (one 0) (seq_peek_u8 plane offset (is_set a0)) }
 {
     host::direct::iddesmar_seq_peek_u8(seq, p0, p1, p2, p3, picture, plane, offset, a0)
 }
@@ -57,7 +59,8 @@ pub extern "C" fn iddesmar_seq_gc_read_u8(
     offset: usize,
     a0: u8,
 ) -> Answer
-    ensures { outcome (answer_said result) (mem p0.now p1.now p2.now p3.now picture.now) ≡ direct_hosted seq (mem p0.now p1.now p2.now p3.now picture.now) (one 0) (seq_gc_read_u8 plane offset (is_set a0)) }
+    ensures { outcome (answer_said result) (mem p0.now p1.now p2.now p3.now picture.now)
+        ≡ direct_hosted seq (mem p0.now p1.now p2.now p3.now picture.now) (one 0) (seq_gc_read_u8 plane offset (is_set a0)) }
 {
     host::direct::iddesmar_seq_gc_read_u8(seq, p0, p1, p2, p3, picture, plane, offset, a0)
 }

@@ -115,7 +115,8 @@ pub fn peek_of(
     address: usize,
     page: u8,
 ) -> Answer
-    ensures { outcome (answer_said result) (held gc (mem p0.now p1.now p2.now p3.now picture.now)) ≡ cpu_hosted gc seq (mem p0.now p1.now p2.now p3.now picture.now) (one 0) (cpu_peek address (is_set page)) }
+    ensures { outcome (answer_said result) (held gc (mem p0.now p1.now p2.now p3.now picture.now))
+        ≡ cpu_hosted gc seq (mem p0.now p1.now p2.now p3.now picture.now) (one 0) (cpu_peek address (is_set page)) }
 {
     if !known(gc, seq) {
         return unknown();
