@@ -1,30 +1,12 @@
 -- What a call's contract leaves open: nothing. Two outcomes that the contract's own reading permits for one input are the same answer, the same
 -- record and the same five slices. A slice lent as `&` cannot change.
-use Rattle.std.proofs.Common.{◌≡◌, [], sym, refl, ap, ◌∙◌}
-use seplogic.Ra.Ura.{Ura}
-use base.Logic.{SProp}
-use prog.Memory.{Memory as Store}
-use prog.Routine.{Routine}
-use types.Logic.{Logic}
+use Rattle.std.proofs.Common.{sym, ap, ◌∙◌}
 use contract.Lifetimes.{Lfts}
-use contract.Monad.{Fun, fact}
-use denote.Triple.Entry.{Args}
-use denote.Triple.Clauses.{AtExit}
 use borrow.Fn.Kinds.{Dens}
-use Rattle.machine.specs.Memory.{Memory, lent}
-use Rattle.machine.specs.Answers.{one, part, changes, shown, no_pixels, outcome}
-use Rattle.machine.specs.Graphics.{shift_mode}
-use Rattle.machine.specs.Calls.{seq_write_address, seq_write_data, gc_reset, gc_write_address, gc_write_data, cpu_read, cpu_peek, cpu_write, serialize, show_pixels}
-use Rattle.machine.specs.Step.{lifted, graphics_step}
-use Rattle.answers.specs.declared.narrow.Answer.{Answer}
-use Rattle.answers.specs.declared.wide.Shown.{Shown}
-use Rattle.answers.specs.declared.wide.Stored.{Stored}
-use Rattle.answers.specs.Answers.{answer_said}
-use Rattle.answers.specs.Wide.{shown_of, pixels_shown, StoredAs}
+use Rattle.machine.specs.Memory.{Memory, mem}
 use Rattle.answers.proofs.Told.{answer-is, pixel-is, clock-is, mapped-is}
 use Rattle.host_records.proofs.Told.{sequencer-answer-is}
-use Rattle.host_records.specs.Records.{is_set, controller_of, controller_record_of}
-use Rattle.host_calls.specs.Hosted.{Held, held, sequencer_hosted, graphics_hosted, cpu_hosted}
+use Rattle.host_calls.specs.Hosted.{Held, held}
 use Rattle.machine_types.proofs.OneAnswer.{OneAnswer, OneOutcome}
 use Rattle.host.proofs.planes.iddesmar_vram_read_u8.Reads as vram-read-u8
 use Rattle.host.proofs.planes.iddesmar_vram_read_u8.Kinds as vram-read-u8-kinds
@@ -95,16 +77,26 @@ use Rattle.host.proofs.ports.iddesmar_gc_shift_mode.Reads as gc-shift-mode
 use Rattle.host.proofs.ports.iddesmar_gc_shift_mode.Kinds as gc-shift-mode-kinds
 use Rattle.host.proofs.ports.iddesmar_gc_map_address.Reads as gc-map-address
 use Rattle.host.proofs.ports.iddesmar_gc_map_address.Kinds as gc-map-address-kinds
-use Rattle.host.specs.contracts.access.iddesmar_gc_cpu_peek_u8_2 as gc-cpu-peek-u8
-use Rattle.host.specs.contracts.access.iddesmar_gc_serialize_2 as gc-serialize
-use Rattle.host.specs.contracts.access.iddesmar_gc_show_pixels_2 as gc-show-pixels
-use Rattle.host.specs.contracts.access.iddesmar_gc_cpu_read_u8_2 as gc-cpu-read-u8
-use Rattle.host.specs.contracts.access.iddesmar_gc_cpu_write_u8_2 as gc-cpu-write-u8
-use Rattle.host.specs.contracts.ports.iddesmar_gc_reset as gc-reset
-use Rattle.host.specs.contracts.ports.iddesmar_gc_write_address as gc-write-address
-use Rattle.host.specs.contracts.ports.iddesmar_gc_write_data as gc-write-data
-use Rattle.host.specs.contracts.sequencer_ports.iddesmar_seq_write_address_2 as seq-write-address-2
-use Rattle.host.specs.contracts.sequencer_ports.iddesmar_seq_write_data_2 as seq-write-data-2
+use Rattle.host.proofs.ports.iddesmar_gc_reset.Reads as gc-reset
+use Rattle.host.proofs.ports.iddesmar_gc_reset.Kinds as gc-reset-kinds
+use Rattle.host.proofs.ports.iddesmar_gc_write_address.Reads as gc-write-address
+use Rattle.host.proofs.ports.iddesmar_gc_write_address.Kinds as gc-write-address-kinds
+use Rattle.host.proofs.ports.iddesmar_gc_write_data.Reads as gc-write-data
+use Rattle.host.proofs.ports.iddesmar_gc_write_data.Kinds as gc-write-data-kinds
+use Rattle.host.proofs.sequencer_ports.iddesmar_seq_write_address_2.Reads as seq-write-address-2
+use Rattle.host.proofs.sequencer_ports.iddesmar_seq_write_address_2.Kinds as seq-write-address-2-kinds
+use Rattle.host.proofs.sequencer_ports.iddesmar_seq_write_data_2.Reads as seq-write-data-2
+use Rattle.host.proofs.sequencer_ports.iddesmar_seq_write_data_2.Kinds as seq-write-data-2-kinds
+use Rattle.host.proofs.access.iddesmar_gc_cpu_read_u8_2.Reads as gc-cpu-read-u8
+use Rattle.host.proofs.access.iddesmar_gc_cpu_read_u8_2.Kinds as gc-cpu-read-u8-kinds
+use Rattle.host.proofs.access.iddesmar_gc_cpu_write_u8_2.Reads as gc-cpu-write-u8
+use Rattle.host.proofs.access.iddesmar_gc_cpu_write_u8_2.Kinds as gc-cpu-write-u8-kinds
+use Rattle.host.proofs.access.iddesmar_gc_cpu_peek_u8_2.Reads as gc-cpu-peek-u8
+use Rattle.host.proofs.access.iddesmar_gc_cpu_peek_u8_2.Kinds as gc-cpu-peek-u8-kinds
+use Rattle.host.proofs.access.iddesmar_gc_serialize_2.Reads as gc-serialize
+use Rattle.host.proofs.access.iddesmar_gc_serialize_2.Kinds as gc-serialize-kinds
+use Rattle.host.proofs.access.iddesmar_gc_show_pixels_2.Reads as gc-show-pixels
+use Rattle.host.proofs.access.iddesmar_gc_show_pixels_2.Kinds as gc-show-pixels-kinds
 
 -- ---- memory alone
 
@@ -129,19 +121,19 @@ module _ (κs : Lfts 5) (a : Dens κs vram-serialize-linear-kinds.ps) where
   vram-serialize-linear-determined r r' e e' p q = p ∙ sym q
 
 module _ (κs : Lfts 5) (a : Dens κs vram-write-u8-kinds.ps) where
-  pub vram-write-u8-determined : OneOutcome (vram-write-u8.Post κs a) (λ e. lent e.0 e.1.0 e.1.1.0 e.1.1.1.0 e.1.1.1.1.0)
+  pub vram-write-u8-determined : OneOutcome (vram-write-u8.Post κs a) (λ e. mem e.0.now e.1.0.now e.1.1.0.now e.1.1.1.0.now e.1.1.1.1.0.now)
   vram-write-u8-determined r r' e e' p q = (p.0 ∙ sym q.0, p.1 ∙ sym q.1)
 
 module _ (κs : Lfts 5) (a : Dens κs vram-plane-set-kinds.ps) where
-  pub vram-plane-set-determined : OneOutcome (vram-plane-set.Post κs a) (λ e. lent e.0 e.1.0 e.1.1.0 e.1.1.1.0 e.1.1.1.1.0)
+  pub vram-plane-set-determined : OneOutcome (vram-plane-set.Post κs a) (λ e. mem e.0.now e.1.0.now e.1.1.0.now e.1.1.1.0.now e.1.1.1.1.0.now)
   vram-plane-set-determined r r' e e' p q = (p.0 ∙ sym q.0, p.1 ∙ sym q.1)
 
 module _ (κs : Lfts 5) (a : Dens κs vram-plane-and-kinds.ps) where
-  pub vram-plane-and-determined : OneOutcome (vram-plane-and.Post κs a) (λ e. lent e.0 e.1.0 e.1.1.0 e.1.1.1.0 e.1.1.1.1.0)
+  pub vram-plane-and-determined : OneOutcome (vram-plane-and.Post κs a) (λ e. mem e.0.now e.1.0.now e.1.1.0.now e.1.1.1.0.now e.1.1.1.1.0.now)
   vram-plane-and-determined r r' e e' p q = (p.0 ∙ sym q.0, p.1 ∙ sym q.1)
 
 module _ (κs : Lfts 5) (a : Dens κs vram-plane-or-kinds.ps) where
-  pub vram-plane-or-determined : OneOutcome (vram-plane-or.Post κs a) (λ e. lent e.0 e.1.0 e.1.1.0 e.1.1.1.0 e.1.1.1.1.0)
+  pub vram-plane-or-determined : OneOutcome (vram-plane-or.Post κs a) (λ e. mem e.0.now e.1.0.now e.1.1.0.now e.1.1.1.0.now e.1.1.1.1.0.now)
   vram-plane-or-determined r r' e e' p q = (p.0 ∙ sym q.0, p.1 ∙ sym q.1)
 
 module _ (κs : Lfts 5) (a : Dens κs vram-deplane-kinds.ps) where
@@ -201,15 +193,15 @@ module _ (κs : Lfts 5) (a : Dens κs seq-serialize-linear-kinds.ps) where
   seq-serialize-linear-determined r r' e e' p q = p ∙ sym q
 
 module _ (κs : Lfts 5) (a : Dens κs seq-plane-set-kinds.ps) where
-  pub seq-plane-set-determined : OneOutcome (seq-plane-set.Post κs a) (λ e. lent e.1.0 e.1.1.0 e.1.1.1.0 e.1.1.1.1.0 e.1.1.1.1.1.0)
+  pub seq-plane-set-determined : OneOutcome (seq-plane-set.Post κs a) (λ e. mem e.1.0.now e.1.1.0.now e.1.1.1.0.now e.1.1.1.1.0.now e.1.1.1.1.1.0.now)
   seq-plane-set-determined r r' e e' p q = (p.0 ∙ sym q.0, p.1 ∙ sym q.1)
 
 module _ (κs : Lfts 5) (a : Dens κs seq-plane-and-kinds.ps) where
-  pub seq-plane-and-determined : OneOutcome (seq-plane-and.Post κs a) (λ e. lent e.1.0 e.1.1.0 e.1.1.1.0 e.1.1.1.1.0 e.1.1.1.1.1.0)
+  pub seq-plane-and-determined : OneOutcome (seq-plane-and.Post κs a) (λ e. mem e.1.0.now e.1.1.0.now e.1.1.1.0.now e.1.1.1.1.0.now e.1.1.1.1.1.0.now)
   seq-plane-and-determined r r' e e' p q = (p.0 ∙ sym q.0, p.1 ∙ sym q.1)
 
 module _ (κs : Lfts 5) (a : Dens κs seq-plane-or-kinds.ps) where
-  pub seq-plane-or-determined : OneOutcome (seq-plane-or.Post κs a) (λ e. lent e.1.0 e.1.1.0 e.1.1.1.0 e.1.1.1.1.0 e.1.1.1.1.1.0)
+  pub seq-plane-or-determined : OneOutcome (seq-plane-or.Post κs a) (λ e. mem e.1.0.now e.1.1.0.now e.1.1.1.0.now e.1.1.1.1.0.now e.1.1.1.1.1.0.now)
   seq-plane-or-determined r r' e e' p q = (p.0 ∙ sym q.0, p.1 ∙ sym q.1)
 
 -- ---- the controller's record
@@ -250,116 +242,44 @@ module _ (κs : Lfts 0) (a : Dens κs gc-map-address-kinds.ps) where
   pub gc-map-address-determined : OneAnswer (gc-map-address.Post κs a)
   gc-map-address-determined r r' e e' p q = mapped-is r r' (answer-of p q)
 
--- ---- records that are lent: a contract that is proved by a walk has no generated reading, so each stands here, with the proof that it is the contract's own clause
+-- ---- records that are lent
 
-module _ {M : Type 1} {𝓤 : Ura M} (𝓛 : Logic 𝓤) (at_mem : Store → SProp 𝓤) (run : Routine → Fun 𝓤) (κs : Lfts 1) (a : Args gc-reset.signature κs) where
-  abbrev gc-reset-post : Answer → AtExit gc-reset.ended κs → Type 0
-  gc-reset-post r e = outcome (answer_said r) e.0.now ≡ lifted (controller_record_of a.0.now.spare) (graphics_step (controller_of a.0.now) gc_reset)
-
-  gc-reset-reads : (r : Answer) (e : AtExit gc-reset.ended κs) → (gc-reset.clauses 𝓛 at_mem run κs a).ensures tt r e ≡ fact 𝓤 (gc-reset-post r e)
-  gc-reset-reads r e = refl
-
-  pub gc-reset-determined : OneOutcome gc-reset-post (λ e. e.0.now)
+module _ (κs : Lfts 1) (a : Dens κs gc-reset-kinds.ps) where
+  pub gc-reset-determined : OneOutcome (gc-reset.Post κs a) (λ e. e.0.now)
   gc-reset-determined r r' e e' p q = (answer-is r r' (answer-of p q), next_of p q)
 
-module _ {M : Type 1} {𝓤 : Ura M} (𝓛 : Logic 𝓤) (at_mem : Store → SProp 𝓤) (run : Routine → Fun 𝓤) (κs : Lfts 1) (a : Args gc-write-address.signature κs) where
-  abbrev gc-write-address-post : Answer → AtExit gc-write-address.ended κs → Type 0
-  gc-write-address-post r e = outcome (answer_said r) e.0.now ≡ graphics_hosted a.0.now (one 0) (gc_write_address a.1.0)
-
-  gc-write-address-reads : (r : Answer) (e : AtExit gc-write-address.ended κs) → (gc-write-address.clauses 𝓛 at_mem run κs a).ensures tt r e ≡ fact 𝓤 (gc-write-address-post r e)
-  gc-write-address-reads r e = refl
-
-  pub gc-write-address-determined : OneOutcome gc-write-address-post (λ e. e.0.now)
+module _ (κs : Lfts 1) (a : Dens κs gc-write-address-kinds.ps) where
+  pub gc-write-address-determined : OneOutcome (gc-write-address.Post κs a) (λ e. e.0.now)
   gc-write-address-determined r r' e e' p q = (answer-is r r' (answer-of p q), next_of p q)
 
-module _ {M : Type 1} {𝓤 : Ura M} (𝓛 : Logic 𝓤) (at_mem : Store → SProp 𝓤) (run : Routine → Fun 𝓤) (κs : Lfts 1) (a : Args gc-write-data.signature κs) where
-  abbrev gc-write-data-post : Answer → AtExit gc-write-data.ended κs → Type 0
-  gc-write-data-post r e = outcome (answer_said r) e.0.now ≡ graphics_hosted a.0.now (one 0) (gc_write_data a.1.0)
-
-  gc-write-data-reads : (r : Answer) (e : AtExit gc-write-data.ended κs) → (gc-write-data.clauses 𝓛 at_mem run κs a).ensures tt r e ≡ fact 𝓤 (gc-write-data-post r e)
-  gc-write-data-reads r e = refl
-
-  pub gc-write-data-determined : OneOutcome gc-write-data-post (λ e. e.0.now)
+module _ (κs : Lfts 1) (a : Dens κs gc-write-data-kinds.ps) where
+  pub gc-write-data-determined : OneOutcome (gc-write-data.Post κs a) (λ e. e.0.now)
   gc-write-data-determined r r' e e' p q = (answer-is r r' (answer-of p q), next_of p q)
 
-module _ {M : Type 1} {𝓤 : Ura M} (𝓛 : Logic 𝓤) (at_mem : Store → SProp 𝓤) (run : Routine → Fun 𝓤) (κs : Lfts 1) (a : Args seq-write-address-2.signature κs) where
-  abbrev seq-write-address-2-post : Answer → AtExit seq-write-address-2.ended κs → Type 0
-  seq-write-address-2-post r e = outcome (answer_said r) e.0.now ≡ sequencer_hosted a.0.now (one 0) (seq_write_address a.1.0)
-
-  seq-write-address-2-reads : (r : Answer) (e : AtExit seq-write-address-2.ended κs) → (seq-write-address-2.clauses 𝓛 at_mem run κs a).ensures tt r e ≡ fact 𝓤 (seq-write-address-2-post r e)
-  seq-write-address-2-reads r e = refl
-
-  pub seq-write-address-2-determined : OneOutcome seq-write-address-2-post (λ e. e.0.now)
+module _ (κs : Lfts 1) (a : Dens κs seq-write-address-2-kinds.ps) where
+  pub seq-write-address-2-determined : OneOutcome (seq-write-address-2.Post κs a) (λ e. e.0.now)
   seq-write-address-2-determined r r' e e' p q = (answer-is r r' (answer-of p q), next_of p q)
 
-module _ {M : Type 1} {𝓤 : Ura M} (𝓛 : Logic 𝓤) (at_mem : Store → SProp 𝓤) (run : Routine → Fun 𝓤) (κs : Lfts 1) (a : Args seq-write-data-2.signature κs) where
-  abbrev seq-write-data-2-post : Answer → AtExit seq-write-data-2.ended κs → Type 0
-  seq-write-data-2-post r e = outcome (answer_said r) e.0.now ≡ sequencer_hosted a.0.now (one 0) (seq_write_data a.1.0)
-
-  seq-write-data-2-reads : (r : Answer) (e : AtExit seq-write-data-2.ended κs) → (seq-write-data-2.clauses 𝓛 at_mem run κs a).ensures tt r e ≡ fact 𝓤 (seq-write-data-2-post r e)
-  seq-write-data-2-reads r e = refl
-
-  pub seq-write-data-2-determined : OneOutcome seq-write-data-2-post (λ e. e.0.now)
+module _ (κs : Lfts 1) (a : Dens κs seq-write-data-2-kinds.ps) where
+  pub seq-write-data-2-determined : OneOutcome (seq-write-data-2.Post κs a) (λ e. e.0.now)
   seq-write-data-2-determined r r' e e' p q = (answer-is r r' (answer-of p q), next_of p q)
 
-module _ {M : Type 1} {𝓤 : Ura M} (𝓛 : Logic 𝓤) (at_mem : Store → SProp 𝓤) (run : Routine → Fun 𝓤) (κs : Lfts 7) (a : Args gc-cpu-read-u8.signature κs) where
-  abbrev gc-cpu-read-u8-post : Answer → AtExit gc-cpu-read-u8.ended κs → Type 0
-  gc-cpu-read-u8-post r e =
-      let m = lent a.1.1.0 a.1.1.1.0 a.1.1.1.1.0 a.1.1.1.1.1.0 a.1.1.1.1.1.1.0 in
-      outcome (answer_said r) (held e.0.now m) ≡ cpu_hosted a.0.now a.1.0.now m (one 0) (cpu_read a.1.1.1.1.1.1.1.0 (is_set a.1.1.1.1.1.1.1.1.0))
-
-  gc-cpu-read-u8-reads : (r : Answer) (e : AtExit gc-cpu-read-u8.ended κs) → (gc-cpu-read-u8.clauses 𝓛 at_mem run κs a).ensures tt r e ≡ fact 𝓤 (gc-cpu-read-u8-post r e)
-  gc-cpu-read-u8-reads r e = refl
-
-  pub gc-cpu-read-u8-determined : OneOutcome gc-cpu-read-u8-post (λ e. e.0.now)
+module _ (κs : Lfts 7) (a : Dens κs gc-cpu-read-u8-kinds.ps) where
+  pub gc-cpu-read-u8-determined : OneOutcome (gc-cpu-read-u8.Post κs a) (λ e. e.0.now)
   gc-cpu-read-u8-determined r r' e e' p q = (answer-is r r' (answer-of p q), ap (λ (h : Held). h.gc) (next_of p q))
 
-module _ {M : Type 1} {𝓤 : Ura M} (𝓛 : Logic 𝓤) (at_mem : Store → SProp 𝓤) (run : Routine → Fun 𝓤) (κs : Lfts 7) (a : Args gc-cpu-write-u8.signature κs) where
-  abbrev gc-cpu-write-u8-post : Stored → AtExit gc-cpu-write-u8.ended κs → Type 0
-  gc-cpu-write-u8-post r e =
-      let m = lent a.1.1.0 a.1.1.1.0 a.1.1.1.1.0 a.1.1.1.1.1.0 a.1.1.1.1.1.1.0 in
-      let m' = lent e.1.1.0 e.1.1.1.0 e.1.1.1.1.0 e.1.1.1.1.1.0 e.1.1.1.1.1.1.0 in
-      StoredAs r (held e.0.now m')
-      (cpu_hosted a.0.now a.1.0.now m (changes 0 0 0 0) (cpu_write a.1.1.1.1.1.1.1.0 (is_set a.1.1.1.1.1.1.1.1.0) a.1.1.1.1.1.1.1.1.1.0))
-
-  gc-cpu-write-u8-reads : (r : Stored) (e : AtExit gc-cpu-write-u8.ended κs) → (gc-cpu-write-u8.clauses 𝓛 at_mem run κs a).ensures tt r e ≡ fact 𝓤 (gc-cpu-write-u8-post r e)
-  gc-cpu-write-u8-reads r e = refl
-
-  pub gc-cpu-write-u8-determined : OneOutcome gc-cpu-write-u8-post (λ e. held e.0.now (lent e.1.1.0 e.1.1.1.0 e.1.1.1.1.0 e.1.1.1.1.1.0 e.1.1.1.1.1.1.0))
+module _ (κs : Lfts 7) (a : Dens κs gc-cpu-write-u8-kinds.ps) where
+  pub gc-cpu-write-u8-determined : OneOutcome (gc-cpu-write-u8.Post κs a) (λ e. held e.0.now (mem e.1.1.0.now e.1.1.1.0.now e.1.1.1.1.0.now e.1.1.1.1.1.0.now e.1.1.1.1.1.1.0.now))
   gc-cpu-write-u8-determined r r' e e' p q = (p.0 ∙ sym q.0, p.1 ∙ sym q.1)
 
-module _ {M : Type 1} {𝓤 : Ura M} (𝓛 : Logic 𝓤) (at_mem : Store → SProp 𝓤) (run : Routine → Fun 𝓤) (κs : Lfts 7) (a : Args gc-cpu-peek-u8.signature κs) where
-  abbrev gc-cpu-peek-u8-post : Answer → AtExit gc-cpu-peek-u8.ended κs → Type 0
-  gc-cpu-peek-u8-post r e =
-      let m = lent a.1.1.0 a.1.1.1.0 a.1.1.1.1.0 a.1.1.1.1.1.0 a.1.1.1.1.1.1.0 in
-      outcome (answer_said r) (held a.0.now m) ≡ cpu_hosted a.0.now a.1.0.now m (one 0) (cpu_peek a.1.1.1.1.1.1.1.0 (is_set a.1.1.1.1.1.1.1.1.0))
-
-  gc-cpu-peek-u8-reads : (r : Answer) (e : AtExit gc-cpu-peek-u8.ended κs) → (gc-cpu-peek-u8.clauses 𝓛 at_mem run κs a).ensures tt r e ≡ fact 𝓤 (gc-cpu-peek-u8-post r e)
-  gc-cpu-peek-u8-reads r e = refl
-
-  pub gc-cpu-peek-u8-determined : OneAnswer gc-cpu-peek-u8-post
+module _ (κs : Lfts 7) (a : Dens κs gc-cpu-peek-u8-kinds.ps) where
+  pub gc-cpu-peek-u8-determined : OneAnswer (gc-cpu-peek-u8.Post κs a)
   gc-cpu-peek-u8-determined r r' e e' p q = answer-is r r' (answer-of p q)
 
-module _ {M : Type 1} {𝓤 : Ura M} (𝓛 : Logic 𝓤) (at_mem : Store → SProp 𝓤) (run : Routine → Fun 𝓤) (κs : Lfts 7) (a : Args gc-serialize.signature κs) where
-  abbrev gc-serialize-post : Shown → AtExit gc-serialize.ended κs → Type 0
-  gc-serialize-post r e =
-      let m = lent a.1.1.0 a.1.1.1.0 a.1.1.1.1.0 a.1.1.1.1.1.0 a.1.1.1.1.1.1.0 in
-      r ≡ shown_of (cpu_hosted a.0.now a.1.0.now m (part []) (serialize a.1.1.1.1.1.1.1.0)).answer
-
-  gc-serialize-reads : (r : Shown) (e : AtExit gc-serialize.ended κs) → (gc-serialize.clauses 𝓛 at_mem run κs a).ensures tt r e ≡ fact 𝓤 (gc-serialize-post r e)
-  gc-serialize-reads r e = refl
-
-  pub gc-serialize-determined : OneAnswer gc-serialize-post
+module _ (κs : Lfts 7) (a : Dens κs gc-serialize-kinds.ps) where
+  pub gc-serialize-determined : OneAnswer (gc-serialize.Post κs a)
   gc-serialize-determined r r' e e' p q = p ∙ sym q
 
-module _ {M : Type 1} {𝓤 : Ura M} (𝓛 : Logic 𝓤) (at_mem : Store → SProp 𝓤) (run : Routine → Fun 𝓤) (κs : Lfts 7) (a : Args gc-show-pixels.signature κs) where
-  abbrev gc-show-pixels-post : Shown → AtExit gc-show-pixels.ended κs → Type 0
-  gc-show-pixels-post r e =
-      let m = lent a.1.1.0 a.1.1.1.0 a.1.1.1.1.0 a.1.1.1.1.1.0 a.1.1.1.1.1.1.0 in
-      r ≡ pixels_shown (cpu_hosted a.0.now a.1.0.now m (shown (shift_mode (controller_of a.0.now).registers) no_pixels) (show_pixels a.1.1.1.1.1.1.1.0)).answer
-
-  gc-show-pixels-reads : (r : Shown) (e : AtExit gc-show-pixels.ended κs) → (gc-show-pixels.clauses 𝓛 at_mem run κs a).ensures tt r e ≡ fact 𝓤 (gc-show-pixels-post r e)
-  gc-show-pixels-reads r e = refl
-
-  pub gc-show-pixels-determined : OneAnswer gc-show-pixels-post
+module _ (κs : Lfts 7) (a : Dens κs gc-show-pixels-kinds.ps) where
+  pub gc-show-pixels-determined : OneAnswer (gc-show-pixels.Post κs a)
   gc-show-pixels-determined r r' e e' p q = p ∙ sym q

@@ -13,8 +13,7 @@ use answers::{Answer, Shown, Stored};
 use host_calls::{peek_of, read_of, serialize_of, show_of, write_of};
 use host_records::record::{ControllerRecord, SequencerRecord};
 
-#[unsafe(no_mangle)]
-pub extern "C" fn iddesmar_gc_cpu_read_u8_2(
+pub fn iddesmar_gc_cpu_read_u8_2(
     gc: &mut ControllerRecord,
     seq: &SequencerRecord,
     p0: &[u8],
@@ -29,7 +28,8 @@ pub extern "C" fn iddesmar_gc_cpu_read_u8_2(
         ≡ cpu_hosted gc.old seq.now (mem p0.now p1.now p2.now p3.now picture.now) (one 0) (cpu_read address (is_set page)) }
 {
     let w = read_of(*gc, *seq, p0, p1, p2, p3, picture, address, page);
-    gc.latches = w.latches;
+    let latches = w.latches;
+    gc.latches = latches;
     // one counter goes up where it stands
     match w.counter {
         4 => gc.stats.mode_0_reads = std::num::wrapping_add_u32(gc.stats.mode_0_reads, 1),
@@ -40,8 +40,7 @@ pub extern "C" fn iddesmar_gc_cpu_read_u8_2(
     w.answer
 }
 
-#[unsafe(no_mangle)]
-pub extern "C" fn iddesmar_gc_cpu_write_u8_2(
+pub fn iddesmar_gc_cpu_write_u8_2(
     gc: &mut ControllerRecord,
     seq: &SequencerRecord,
     p0: &mut [u8],
@@ -70,8 +69,7 @@ pub extern "C" fn iddesmar_gc_cpu_write_u8_2(
 }
 
 // Plane 0's byte, or under chain-four that of plane offset mod 4; nothing moves.
-#[unsafe(no_mangle)]
-pub extern "C" fn iddesmar_gc_cpu_peek_u8_2(
+pub fn iddesmar_gc_cpu_peek_u8_2(
     gc: &ControllerRecord,
     seq: &SequencerRecord,
     p0: &[u8],
@@ -89,8 +87,7 @@ pub extern "C" fn iddesmar_gc_cpu_peek_u8_2(
 }
 
 // The eight pixels of an offset, by the older show: refused in two shift modes.
-#[unsafe(no_mangle)]
-pub extern "C" fn iddesmar_gc_serialize_2(
+pub fn iddesmar_gc_serialize_2(
     gc: &ControllerRecord,
     seq: &SequencerRecord,
     p0: &[u8],
@@ -106,8 +103,7 @@ pub extern "C" fn iddesmar_gc_serialize_2(
 }
 
 // The eight pixels of an offset, in every shift mode.
-#[unsafe(no_mangle)]
-pub extern "C" fn iddesmar_gc_show_pixels_2(
+pub fn iddesmar_gc_show_pixels_2(
     gc: &ControllerRecord,
     seq: &SequencerRecord,
     p0: &[u8],

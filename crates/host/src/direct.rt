@@ -15,8 +15,7 @@ use answers::{
 use host_records::record::{SequencerRecord, is_set, known_sequencer, to_sequencer};
 use machine_types::{PixelPlace, PlaneOffset};
 
-#[unsafe(no_mangle)]
-pub extern "C" fn iddesmar_seq_cpu_read_u8(
+pub fn iddesmar_seq_cpu_read_u8(
     seq: SequencerRecord,
     p0: &[u8],
     p1: &[u8],
@@ -40,8 +39,7 @@ pub extern "C" fn iddesmar_seq_cpu_read_u8(
     of_byte(answer)
 }
 
-#[unsafe(no_mangle)]
-pub extern "C" fn iddesmar_seq_peek_u8(
+pub fn iddesmar_seq_peek_u8(
     seq: SequencerRecord,
     p0: &[u8],
     p1: &[u8],
@@ -65,8 +63,7 @@ pub extern "C" fn iddesmar_seq_peek_u8(
     of_byte(answer)
 }
 
-#[unsafe(no_mangle)]
-pub extern "C" fn iddesmar_seq_gc_read_u8(
+pub fn iddesmar_seq_gc_read_u8(
     seq: SequencerRecord,
     p0: &[u8],
     p1: &[u8],
@@ -90,8 +87,7 @@ pub extern "C" fn iddesmar_seq_gc_read_u8(
     of_byte(answer)
 }
 
-#[unsafe(no_mangle)]
-pub extern "C" fn iddesmar_seq_read_linear(
+pub fn iddesmar_seq_read_linear(
     seq: SequencerRecord,
     p0: &[u8],
     p1: &[u8],
@@ -110,8 +106,7 @@ pub extern "C" fn iddesmar_seq_read_linear(
     of_pixel(answer)
 }
 
-#[unsafe(no_mangle)]
-pub extern "C" fn iddesmar_seq_serialize_linear(
+pub fn iddesmar_seq_serialize_linear(
     seq: SequencerRecord,
     p0: &[u8],
     p1: &[u8],
@@ -132,8 +127,7 @@ pub extern "C" fn iddesmar_seq_serialize_linear(
     of_part(number, part)
 }
 
-#[unsafe(no_mangle)]
-pub extern "C" fn iddesmar_seq_plane_set(
+pub fn iddesmar_seq_plane_set(
     seq: SequencerRecord,
     p0: &mut [u8],
     p1: &mut [u8],
@@ -157,8 +151,7 @@ pub extern "C" fn iddesmar_seq_plane_set(
     of_store(answer)
 }
 
-#[unsafe(no_mangle)]
-pub extern "C" fn iddesmar_seq_plane_and(
+pub fn iddesmar_seq_plane_and(
     seq: SequencerRecord,
     p0: &mut [u8],
     p1: &mut [u8],
@@ -182,8 +175,7 @@ pub extern "C" fn iddesmar_seq_plane_and(
     of_store(answer)
 }
 
-#[unsafe(no_mangle)]
-pub extern "C" fn iddesmar_seq_plane_or(
+pub fn iddesmar_seq_plane_or(
     seq: SequencerRecord,
     p0: &mut [u8],
     p1: &mut [u8],

@@ -10,8 +10,7 @@ ghost use Rattle.answers.specs.Wide.{shown_of, StoredAs};
 use answers::{Answer, Shown, Stored, of_byte, of_done, of_part, of_pixel, of_store};
 use machine_types::{PixelPlace, PlaneOffset};
 
-#[unsafe(no_mangle)]
-pub extern "C" fn iddesmar_vram_read_u8(
+pub fn iddesmar_vram_read_u8(
     p0: &[u8],
     p1: &[u8],
     p2: &[u8],
@@ -26,8 +25,7 @@ pub extern "C" fn iddesmar_vram_read_u8(
     of_byte(answer)
 }
 
-#[unsafe(no_mangle)]
-pub extern "C" fn iddesmar_vram_peek_u8(
+pub fn iddesmar_vram_peek_u8(
     p0: &[u8],
     p1: &[u8],
     p2: &[u8],
@@ -42,8 +40,7 @@ pub extern "C" fn iddesmar_vram_peek_u8(
     of_byte(answer)
 }
 
-#[unsafe(no_mangle)]
-pub extern "C" fn iddesmar_vram_read_glyph(
+pub fn iddesmar_vram_read_glyph(
     p0: &[u8],
     p1: &[u8],
     p2: &[u8],
@@ -57,8 +54,7 @@ pub extern "C" fn iddesmar_vram_read_glyph(
     of_byte(answer)
 }
 
-#[unsafe(no_mangle)]
-pub extern "C" fn iddesmar_vram_read_linear(
+pub fn iddesmar_vram_read_linear(
     p0: &[u8],
     p1: &[u8],
     p2: &[u8],
@@ -72,8 +68,7 @@ pub extern "C" fn iddesmar_vram_read_linear(
     of_pixel(answer)
 }
 
-#[unsafe(no_mangle)]
-pub extern "C" fn iddesmar_vram_serialize_linear(
+pub fn iddesmar_vram_serialize_linear(
     p0: &[u8],
     p1: &[u8],
     p2: &[u8],
@@ -88,8 +83,7 @@ pub extern "C" fn iddesmar_vram_serialize_linear(
     of_part(number, part)
 }
 
-#[unsafe(no_mangle)]
-pub extern "C" fn iddesmar_vram_write_u8(
+pub fn iddesmar_vram_write_u8(
     p0: &mut [u8],
     p1: &mut [u8],
     p2: &mut [u8],
@@ -105,8 +99,7 @@ pub extern "C" fn iddesmar_vram_write_u8(
     of_store(answer)
 }
 
-#[unsafe(no_mangle)]
-pub extern "C" fn iddesmar_vram_plane_set(
+pub fn iddesmar_vram_plane_set(
     p0: &mut [u8],
     p1: &mut [u8],
     p2: &mut [u8],
@@ -122,8 +115,7 @@ pub extern "C" fn iddesmar_vram_plane_set(
     of_store(answer)
 }
 
-#[unsafe(no_mangle)]
-pub extern "C" fn iddesmar_vram_plane_and(
+pub fn iddesmar_vram_plane_and(
     p0: &mut [u8],
     p1: &mut [u8],
     p2: &mut [u8],
@@ -139,8 +131,7 @@ pub extern "C" fn iddesmar_vram_plane_and(
     of_store(answer)
 }
 
-#[unsafe(no_mangle)]
-pub extern "C" fn iddesmar_vram_plane_or(
+pub fn iddesmar_vram_plane_or(
     p0: &mut [u8],
     p1: &mut [u8],
     p2: &mut [u8],
@@ -156,8 +147,7 @@ pub extern "C" fn iddesmar_vram_plane_or(
     of_store(answer)
 }
 
-#[unsafe(no_mangle)]
-pub extern "C" fn iddesmar_vram_deplane(
+pub fn iddesmar_vram_deplane(
     p0: &[u8],
     p1: &[u8],
     p2: &[u8],

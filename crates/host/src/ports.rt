@@ -19,16 +19,14 @@ use host_records::record::{
 use machine_types::{GraphicsController, MappedAnswer, Refusal};
 
 // The start record; the host's own byte is 0.
-#[unsafe(no_mangle)]
-pub extern "C" fn iddesmar_gc_new() -> ControllerRecord
+pub fn iddesmar_gc_new() -> ControllerRecord
     ensures { result ≡ controller_record_of 0 fresh_gc }
 {
     of_controller(GraphicsController::new(), 0)
 }
 
 // Any record is taken; latches and counters go back to the start too, and the host's own byte stays.
-#[unsafe(no_mangle)]
-pub extern "C" fn iddesmar_gc_reset(gc: &mut ControllerRecord) -> Answer
+pub fn iddesmar_gc_reset(gc: &mut ControllerRecord) -> Answer
     ensures { outcome (answer_said result) gc.new ≡ lifted (controller_record_of gc.old.spare) (graphics_step (controller_of gc.old) gc_reset) }
 {
     let w = reset_of(*gc);
@@ -36,8 +34,7 @@ pub extern "C" fn iddesmar_gc_reset(gc: &mut ControllerRecord) -> Answer
     w.answer
 }
 
-#[unsafe(no_mangle)]
-pub extern "C" fn iddesmar_gc_write_address(gc: &mut ControllerRecord, byte: u8) -> Answer
+pub fn iddesmar_gc_write_address(gc: &mut ControllerRecord, byte: u8) -> Answer
     ensures { outcome (answer_said result) gc.new ≡ graphics_hosted gc.old (one 0) (gc_write_address byte) }
 {
     let w = address_of(*gc, byte);
@@ -45,8 +42,7 @@ pub extern "C" fn iddesmar_gc_write_address(gc: &mut ControllerRecord, byte: u8)
     w.answer
 }
 
-#[unsafe(no_mangle)]
-pub extern "C" fn iddesmar_gc_write_data(gc: &mut ControllerRecord, byte: u8) -> Answer
+pub fn iddesmar_gc_write_data(gc: &mut ControllerRecord, byte: u8) -> Answer
     ensures { outcome (answer_said result) gc.new ≡ graphics_hosted gc.old (one 0) (gc_write_data byte) }
 {
     let w = data_of(*gc, byte);
@@ -66,8 +62,7 @@ pub extern "C" fn iddesmar_gc_write_data(gc: &mut ControllerRecord, byte: u8) ->
     w.answer
 }
 
-#[unsafe(no_mangle)]
-pub extern "C" fn iddesmar_gc_read_address(gc: ControllerRecord) -> Answer
+pub fn iddesmar_gc_read_address(gc: ControllerRecord) -> Answer
     ensures { outcome (answer_said result) gc ≡ graphics_hosted gc (one 0) gc_read_address }
 {
     if !known_controller(gc) {
@@ -76,8 +71,7 @@ pub extern "C" fn iddesmar_gc_read_address(gc: ControllerRecord) -> Answer
     of_byte(graphics_controller::read_address(to_controller(gc)))
 }
 
-#[unsafe(no_mangle)]
-pub extern "C" fn iddesmar_gc_read_data(gc: ControllerRecord) -> Answer
+pub fn iddesmar_gc_read_data(gc: ControllerRecord) -> Answer
     ensures { outcome (answer_said result) gc ≡ graphics_hosted gc (one 0) gc_read_data }
 {
     if !known_controller(gc) {
@@ -86,8 +80,7 @@ pub extern "C" fn iddesmar_gc_read_data(gc: ControllerRecord) -> Answer
     of_byte(graphics_controller::read_data(to_controller(gc)))
 }
 
-#[unsafe(no_mangle)]
-pub extern "C" fn iddesmar_gc_chain(gc: ControllerRecord) -> Answer
+pub fn iddesmar_gc_chain(gc: ControllerRecord) -> Answer
     ensures { outcome (answer_said result) gc ≡ graphics_hosted gc (one 0) gc_chain }
 {
     if !known_controller(gc) {
@@ -96,8 +89,7 @@ pub extern "C" fn iddesmar_gc_chain(gc: ControllerRecord) -> Answer
     of_flag(graphics_controller::chain(to_controller(gc)))
 }
 
-#[unsafe(no_mangle)]
-pub extern "C" fn iddesmar_gc_chain4(gc: ControllerRecord) -> Answer
+pub fn iddesmar_gc_chain4(gc: ControllerRecord) -> Answer
     ensures { outcome (answer_said result) gc ≡ graphics_hosted gc (one 0) gc_chain4 }
 {
     if !known_controller(gc) {
@@ -106,8 +98,7 @@ pub extern "C" fn iddesmar_gc_chain4(gc: ControllerRecord) -> Answer
     of_flag(graphics_controller::chain4(to_controller(gc)))
 }
 
-#[unsafe(no_mangle)]
-pub extern "C" fn iddesmar_gc_memory_map(gc: ControllerRecord) -> Answer
+pub fn iddesmar_gc_memory_map(gc: ControllerRecord) -> Answer
     ensures { outcome (answer_said result) gc ≡ graphics_hosted gc (one 0) gc_memory_map }
 {
     if !known_controller(gc) {
@@ -116,8 +107,7 @@ pub extern "C" fn iddesmar_gc_memory_map(gc: ControllerRecord) -> Answer
     of_map(graphics_controller::memory_map(to_controller(gc)))
 }
 
-#[unsafe(no_mangle)]
-pub extern "C" fn iddesmar_gc_odd_even(gc: ControllerRecord) -> Answer
+pub fn iddesmar_gc_odd_even(gc: ControllerRecord) -> Answer
     ensures { outcome (answer_said result) gc ≡ graphics_hosted gc (one 0) gc_odd_even }
 {
     if !known_controller(gc) {
@@ -126,8 +116,7 @@ pub extern "C" fn iddesmar_gc_odd_even(gc: ControllerRecord) -> Answer
     of_odd_even(graphics_controller::odd_even(to_controller(gc)))
 }
 
-#[unsafe(no_mangle)]
-pub extern "C" fn iddesmar_gc_shift_mode(gc: ControllerRecord) -> Answer
+pub fn iddesmar_gc_shift_mode(gc: ControllerRecord) -> Answer
     ensures { outcome (answer_said result) gc ≡ graphics_hosted gc (one 0) gc_shift_mode }
 {
     if !known_controller(gc) {
@@ -136,8 +125,7 @@ pub extern "C" fn iddesmar_gc_shift_mode(gc: ControllerRecord) -> Answer
     of_shift(graphics_controller::shift_mode(to_controller(gc)))
 }
 
-#[unsafe(no_mangle)]
-pub extern "C" fn iddesmar_gc_map_address(gc: ControllerRecord, address: usize, page: u8) -> Mapped
+pub fn iddesmar_gc_map_address(gc: ControllerRecord, address: usize, page: u8) -> Mapped
     ensures { outcome (mapped_answer_said result) gc ≡ graphics_hosted gc (two 0 0) (gc_map_address address (is_set page)) }
 {
     if !known_controller(gc) {

@@ -18,16 +18,14 @@ use host_records::record::{SequencerRecord, known_sequencer, of_sequencer, to_se
 use machine_types::{ClockAnswer, Refusal, Sequencer};
 
 // The start record.
-#[unsafe(no_mangle)]
-pub extern "C" fn iddesmar_seq_new() -> SequencerRecord
+pub fn iddesmar_seq_new() -> SequencerRecord
     ensures { result ≡ sequencer_record_of fresh_seq }
 {
     of_sequencer(Sequencer::new())
 }
 
 // Any record is taken.
-#[unsafe(no_mangle)]
-pub extern "C" fn iddesmar_seq_reset(seq: SequencerRecord) -> SequencerAnswer
+pub fn iddesmar_seq_reset(seq: SequencerRecord) -> SequencerAnswer
     ensures { outcome (answer_said result.answer) result.seq ≡ lifted sequencer_record_of (sequencer_step (sequencer_of seq) seq_reset) }
 {
     let next = sequencer::reset(to_sequencer(seq));
@@ -37,8 +35,7 @@ pub extern "C" fn iddesmar_seq_reset(seq: SequencerRecord) -> SequencerAnswer
     }
 }
 
-#[unsafe(no_mangle)]
-pub extern "C" fn iddesmar_seq_clock(seq: SequencerRecord) -> Clock
+pub fn iddesmar_seq_clock(seq: SequencerRecord) -> Clock
     ensures { clock_answer_said result ≡ (sequencer_hosted seq (one 0) seq_clock).answer }
 {
     if !known_sequencer(seq) {
@@ -47,8 +44,7 @@ pub extern "C" fn iddesmar_seq_clock(seq: SequencerRecord) -> Clock
     of_clock(sequencer::clock(to_sequencer(seq)))
 }
 
-#[unsafe(no_mangle)]
-pub extern "C" fn iddesmar_seq_set_clock_change_pending(seq: SequencerRecord) -> SequencerAnswer
+pub fn iddesmar_seq_set_clock_change_pending(seq: SequencerRecord) -> SequencerAnswer
     ensures { outcome (answer_said result.answer) result.seq ≡ sequencer_hosted seq (one 0) seq_set_clock_change_pending }
 {
     if !known_sequencer(seq) {
@@ -57,8 +53,7 @@ pub extern "C" fn iddesmar_seq_set_clock_change_pending(seq: SequencerRecord) ->
     of_sequencer_done(seq, sequencer::set_clock_change_pending(to_sequencer(seq)))
 }
 
-#[unsafe(no_mangle)]
-pub extern "C" fn iddesmar_seq_poll_clock_change(seq: SequencerRecord) -> SequencerAnswer
+pub fn iddesmar_seq_poll_clock_change(seq: SequencerRecord) -> SequencerAnswer
     ensures { outcome (answer_said result.answer) result.seq ≡ sequencer_hosted seq (one 0) seq_poll_clock_change }
 {
     if !known_sequencer(seq) {
@@ -67,8 +62,7 @@ pub extern "C" fn iddesmar_seq_poll_clock_change(seq: SequencerRecord) -> Sequen
     of_sequencer_flag(seq, sequencer::poll_clock_change(to_sequencer(seq)))
 }
 
-#[unsafe(no_mangle)]
-pub extern "C" fn iddesmar_seq_read_address(seq: SequencerRecord) -> Answer
+pub fn iddesmar_seq_read_address(seq: SequencerRecord) -> Answer
     ensures { answer_said result ≡ (sequencer_hosted seq (one 0) seq_read_address).answer }
 {
     if !known_sequencer(seq) {
@@ -77,8 +71,7 @@ pub extern "C" fn iddesmar_seq_read_address(seq: SequencerRecord) -> Answer
     of_byte(sequencer::read_address(to_sequencer(seq)))
 }
 
-#[unsafe(no_mangle)]
-pub extern "C" fn iddesmar_seq_write_address_2(seq: &mut SequencerRecord, byte: u8) -> Answer
+pub fn iddesmar_seq_write_address_2(seq: &mut SequencerRecord, byte: u8) -> Answer
     ensures { outcome (answer_said result) seq.new ≡ sequencer_hosted seq.old (one 0) (seq_write_address byte) }
 {
     let w = sequencer_address_of(*seq, byte);
@@ -86,8 +79,7 @@ pub extern "C" fn iddesmar_seq_write_address_2(seq: &mut SequencerRecord, byte: 
     w.answer
 }
 
-#[unsafe(no_mangle)]
-pub extern "C" fn iddesmar_seq_read_data(seq: SequencerRecord) -> Answer
+pub fn iddesmar_seq_read_data(seq: SequencerRecord) -> Answer
     ensures { answer_said result ≡ (sequencer_hosted seq (one 0) seq_read_data).answer }
 {
     if !known_sequencer(seq) {
@@ -96,8 +88,7 @@ pub extern "C" fn iddesmar_seq_read_data(seq: SequencerRecord) -> Answer
     of_byte(sequencer::read_data(to_sequencer(seq)))
 }
 
-#[unsafe(no_mangle)]
-pub extern "C" fn iddesmar_seq_write_data_2(seq: &mut SequencerRecord, byte: u8) -> Answer
+pub fn iddesmar_seq_write_data_2(seq: &mut SequencerRecord, byte: u8) -> Answer
     ensures { outcome (answer_said result) seq.new ≡ sequencer_hosted seq.old (one 0) (seq_write_data byte) }
 {
     let w = sequencer_data_of(*seq, byte);

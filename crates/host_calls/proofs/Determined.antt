@@ -81,7 +81,7 @@ module _ (κs : Lfts 5) (a : Dens κs read-of-kinds.ps) where
       ap₂ (λ (u : Answer × List ℕ) (k : ℕ). record { answer = u.0; latches = u.1; counter = k }) (ap₂ (λ (u : Answer) (l : List ℕ). (u, l)) told latches) counts
 
 module _ (κs : Lfts 5) (a : Dens κs write-of-kinds.ps) where
-  pub write-of-determined : OneOutcome (write-of.Post κs a) (λ e. lent e.1.1.0 e.1.1.1.0 e.1.1.1.1.0 e.1.1.1.1.1.0 e.1.1.1.1.1.1.0)
+  pub write-of-determined : OneOutcome (write-of.Post κs a) (λ e. mem e.1.1.0.now e.1.1.1.0.now e.1.1.1.1.0.now e.1.1.1.1.1.0.now e.1.1.1.1.1.1.0.now)
   write-of-determined r r' e e' p q =
       let told = p.0.0 ∙ sym q.0.0 in
       let counts = p.1 ∙ ap (λ (s : Stored). counter_of s.number (write_counter (write_mode (controller_of a.0).registers))) told ∙ sym q.1 in

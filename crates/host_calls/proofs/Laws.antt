@@ -3,11 +3,10 @@ use Prim.Native.Nat.{ℕ, zero, suc, ◌+◌, ◌/◌, ◌%◌, ◌^◌, ◌<◌
 use native.Mathlib.Omega.{arith}
 use mathlib.Core.Logic.{◌≢◌}
 use mathlib.Core.Path.{◌≡◌, refl, sym, ap, ap₂, subst, ◌∙◌}
-use mathlib.Core.Bool.{Bool, true, false, not}
+use mathlib.Core.Bool.{Bool, true, false}
 use mathlib.Core.List.{List, [], ◌∷◌}
 use lib.Bits.{bit_and, and_mask}
 use lib.ListN.{get_or}
-use borrow.Author.Tests.{not-true, not-false}
 use Rattle.bits.specs.Bit.{field}
 use Rattle.machine_types.specs.declared.gc.GraphicsController.{GraphicsController}
 use Rattle.machine_types.specs.declared.gc.GraphicsRegisters.{GraphicsRegisters}
@@ -33,12 +32,12 @@ use Rattle.host_records.specs.Records.{with_stats, with_latches, with_count, cou
 use Rattle.host_records.proofs.Laws.{record-back, known-gc, left-lifted, data-stored, register-kept}
 use Rattle.host_calls.specs.Hosted.{held, held_of, sequencer_hosted, direct_hosted, graphics_hosted, cpu_hosted}
 
--- what a test of a record says, asked for negated as the code does
-pub unknown-of : {b k : Bool} → not b ≡ true → b ≡ k → false ≡ k
-unknown-of {b = b} h e = sym (not-true b h) ∙ e
+-- what a test of a record says
+pub unknown-of : {b k : Bool} → b ≡ false → b ≡ k → false ≡ k
+unknown-of h e = sym h ∙ e
 
-pub known_of : {b k : Bool} → not b ≡ false → b ≡ k → true ≡ k
-known_of {b = b} h e = sym (not-false b h) ∙ e
+pub known_of : {b k : Bool} → b ≡ true → b ≡ k → true ≡ k
+known_of h e = sym h ∙ e
 
 -- ---- calls on the sequencer's record
 
@@ -161,8 +160,8 @@ module _ (g : ControllerRecord) (s : SequencerRecord) (m : Memory) (v : Value) (
   cpu-asked e g' s' i j a b f p = cpu-known e g' s' i j a b g' g m f (sym (ap (controller_record_of g.spare) i ∙ record-back g (known-gc g s e))) p
 
 -- the answer of a show, by value: of an older one, of one that serves every shift mode
-pub shown_of : {S : Type 0} (by : Said → Shown) (a : Said) (t : S) (o : Outcome S) (r : Shown) → r ≡ by a → outcome a t ≡ o → r ≡ by o.answer
-shown_of {S = S} by a t o r f p = f ∙ ap (λ (o : Outcome S). by o.answer) p
+pub shown-by : {S : Type 0} (by : Said → Shown) (a : Said) (t : S) (o : Outcome S) (r : Shown) → r ≡ by a → outcome a t ≡ o → r ≡ by o.answer
+shown-by {S = S} by a t o r f p = f ∙ ap (λ (o : Outcome S). by o.answer) p
 
 -- the answer of a store, by value, and what it leaves
 pub stored-as : {S : Type 0} (a : Said) (t : S) (o : Outcome S) (r : Stored) → r ≡ stored_of a → outcome a t ≡ o → StoredAs r t o

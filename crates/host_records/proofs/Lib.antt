@@ -1,4 +1,3 @@
 pub mod Laws
-pub mod InPlace
 pub mod Told
 pub mod Determined
