@@ -10,10 +10,10 @@ OPERATORS = {k: list(v) for k, v in OPERATORS.items()} | {'<<': ['>>'], '>>': ['
 COMPARISONS = {'<': ['<=', '>'], '<=': ['<', '>='], '>': ['>=', '<'], '>=': ['>', '<='], '==': ['!=', '<='], '!=': ['==', '<']}
 ANTT_OPERATORS = {'+': ['-', '*'], '-': ['+'], '*': ['+', '/'], '/': ['*', '%'], '%': ['/'], '^': ['*'], '&&': ['||'], '||': ['&&']}
 ANTT_RELATIONS = {'≤': ['<'], '<': ['≤'], '≡': ['≢'], '≢': ['≡']}
-ANTT_WORDS = {'leb': ['ltb', 'eqb'], 'ltb': ['leb', 'eqb'], 'eqb': ['leb', 'ltb'], 'min': ['max'], 'max': ['min'], 'true': ['false'], 'false': ['true']}
+ANTT_WORDS = {'leb': ['ltb', 'eqb'], 'ltb': ['leb', 'eqb'], 'eqb': ['leb', 'ltb'], 'nat_le': ['nat_lt', 'nat_eq'], 'nat_lt': ['nat_le', 'nat_eq'], 'nat_eq': ['nat_le', 'nat_lt'],
+              'min': ['max'], 'max': ['min'], 'true': ['false'], 'false': ['true']}
 # where a name comes from that an edit may have to bring in
-HOMES = {'leb': 'lib.Dec', 'ltb': 'lib.Dec', 'eqb': 'lib.Dec', '||': 'mathlib.Core.Bool', '&&': 'mathlib.Core.Bool', 'true': 'mathlib.Core.Bool',
-         'false': 'mathlib.Core.Bool', '≢': 'mathlib.Core.Logic', '≡': 'mathlib.Core.Path'}
+HOME = 'Rattle.std.specs.Prelude'
 NUMBER = re.compile(r'(?<![\w.«{])(0x[0-9A-Fa-f]+|0b[01]+|\d+)(?=(?:u8|u32|u64|usize)?(?!\w))|(?<=\.\.)(\d+)')
 
 
@@ -131,16 +131,16 @@ def antt_rules(part, tables):
     """All edits of one part of an antt file, as span, text and kind."""
     yield from by_table(part, r'(?<= )(&&|\|\||[-+*/%^])(?= )', ANTT_OPERATORS, 'operator')
     yield from by_table(part, r'(?<= )([≤<≡≢])(?= )', ANTT_RELATIONS, 'comparison')
-    yield from by_table(part, r'(?<![\w.«])(leb|ltb|eqb|min|max|true|false)(?![\w»])', ANTT_WORDS, 'test')
+    yield from by_table(part, r'(?<![\w.«])(nat_le|nat_lt|nat_eq|leb|ltb|eqb|min|max|true|false)(?![\w»])', ANTT_WORDS, 'test')
     yield from by_numbers(part)
     for record in tables.fields.values():
-        yield from by_types(part, record, r'(?<= \.)(«?\w+»?)', 'register')
+        yield from by_types(part, record, r'(?<=[\w)»]\.)(«?\w+»?)', 'register')
     yield from by_types(part, part.bound, r"(?<![\w.«′'])([a-z]\w*)(?![\w»′'])(?! = )", 'parameter')
     for group in tables.groups:
         for m in re.finditer(r"(?<![\w.])(«?[A-Z]\w*»?)(?![\w»])", part.text):
             for new in beside(m.group(1), group) if m.group(1) in group else []:
                 yield m.span(1), new, 'variant'
-    yield from by_types(part, tables.scope, r"(?<![\w.«])([a-z]\w*)(?![\w»])", 'definition')
+    yield from by_types(part, tables.scope, r"(?<![\w.«])([A-Za-z]\w*)(?![\w»])", 'definition')
     yield from pick_rules(part)
 
 
@@ -192,10 +192,10 @@ def edits_of(path, text, parts, rules, tables, prefix):
 
 def bring_for(new, names):
     """The name that an edit has to bring in, if any."""
-    word = new if re.fullmatch(r'\w+', new) else f'_{new}_'
-    if names is None or word in names or not (new in HOMES or new in ANTT_OPERATORS or new in ANTT_RELATIONS or new in ('min', 'max')):
+    word = new if re.fullmatch(r'\w+', new) else f'◌{new}◌'
+    if names is None or word in names or not (new in ANTT_WORDS or new in ANTT_OPERATORS or new in ANTT_RELATIONS):
         return None
-    return f'{HOMES.get(new, "Prim.Native.Nat")}.{{{word}}}'
+    return f'{HOME}.{{{word}}}'
 
 
 def chosen(edits, seed, most):

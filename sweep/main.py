@@ -65,7 +65,7 @@ def definition_edits(crate):
     types = texts.typed(whole)
     fields = {}
     for c in (*tries.below(crate), crate):
-        fields |= {r: {n if '_' not in n else f'«{n}»': t for n, t in its.items()} for r, its in texts.declared(f'crates/{c}')[0].items()}
+        fields |= texts.declared(f'crates/{c}')[0]
     for text in whole:
         fields |= texts.record_fields(text)
     files = []

@@ -144,6 +144,6 @@ def imported(text):
     for module, listed in re.findall(r'^use (\S+)\.\{(.*)\}', text, re.M):
         here = [n.split(' as ')[-1].strip() for n in listed.split(',')]
         names.update(here)
-        if module.endswith('the-variants'):
+        if module.endswith('TheVariants'):
             groups.append(here)
     return names, groups
