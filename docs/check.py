@@ -21,13 +21,13 @@ import sys
 
 NAMED = ["README.md", "host/README.md", "docs/PROMISES.md", "docs/DECISIONS.md", "docs/CHANGING.md", *sorted(glob.glob("docs/changes/*.md"))]
 PAGES = NAMED + ["docs/COST.md", "docs/DIFFERENCES.md", "docs/SWEEP.md", "oracle/README.md", "sweep/README.md"]
-FOLDERS = "crates docs host oracle tape sweep bench .ci".split()
+FOLDERS = "crates docs host oracle tape sweep bench scripts tools .ci".split()
 ENDINGS = "md antt rt rs c h py txt list lines tape edit out".split()
 
 # Words in backticks that are no names of this tree, each kind with its reason.
 EXCEPTIONS = {
     # words of the languages, and of the kit
-    "requires", "ensures", "bool", "usize", "&mut", "getD", "Option", "rt", "types", "Bool", "|", "#", "libc", "let", "abbrev", "unfolding",
+    "requires", "ensures", "bool", "usize", "&mut", "get_or", "Option", "rt", "types", "Bool", "|", "#", "libc", "let", "abbrev", "unfolding",
     # programs that scripts build, the fields of a must-fail edit, and an option
     "test", "oracle", "file:", "old:", "new:", "--help",
     # MartyPC's names for what document 01 leaves out, or gives another shape
@@ -56,7 +56,7 @@ def tree():
     """Every file of the tree, without what is built."""
     found = []
     for folder, folders, files in os.walk("."):
-        folders[:] = [f for f in folders if os.path.join(folder, f) not in ("./target", "./.git")]
+        folders[:] = [f for f in folders if os.path.join(folder, f) not in ("./target", "./.git") and not re.fullmatch(r"\./crates/\w+/out", os.path.join(folder, f))]
         found += [os.path.normpath(os.path.join(folder, f)) for f in files]
     return found
 
@@ -82,13 +82,20 @@ def definitions(files):
         for match in kind.finditer(text):
             for name in " ".join(group for group in match.groups() if group).split():
                 found.setdefault(name, set()).add(path)
+        for name in handed_on(text) if path.endswith((".rt", ".rs")) else ():
+            found.setdefault(name, set()).add(path)
     return found
+
+
+def handed_on(text):
+    """The names of the lists `use a::{b, c as d}` of a file of Rattle or Rust."""
+    return [name.split(" as ")[-1].strip() for listed in re.findall(r"\buse\s+[\w:]+::\{([^{}]*)\}", text) for name in listed.split(",") if name.strip()]
 
 
 files = tree()
 bases = {os.path.basename(path) for path in files}
 defined = definitions(files)
-uses = {name: used.split() for name, used in re.findall(r"^(\w+):(.*)$", read("crates.txt"), re.M)}
+uses = {name: used.split() for name, used in re.findall(r"^(\w+)(?: [^:\n]*)?:(.*)$", read("crates.txt"), re.M)}
 crates = list(uses)
 edits = {}
 for path in glob.glob("crates/*/must-fail/*.edit"):
@@ -313,7 +320,8 @@ def asking():
         crate, module = path.split("/")[1], os.path.basename(path)[:-3]
         library = read(f"crates/{crate}/src/lib.rt") if os.path.exists(f"crates/{crate}/src/lib.rt") else ""
         for name in re.findall(r"^ *pub fn (\w+)[^{;]*?\)(?: -> [^\n]*)?\n\s*requires", read(path), re.M):
-            if module == "lib" or re.search(rf"pub mod {module};|pub use {module}::{name}\b", library):
+            handed = re.findall(rf"pub use {module}::(\{{[^{{}}]*\}}|\w+)", library)
+            if module == "lib" or f"pub mod {module};" in library or any(name in re.findall(r"\w+", listed) for listed in handed):
                 found.add(f"{crate}::{module}::{name}")
     return found
 
@@ -338,7 +346,7 @@ def silent():
     """The crates with public functions that have no `ensures`."""
     found = set()
     for path in glob.glob("crates/*/src/**/*.rt", recursive=True):
-        if any("ensures {" not in head for _, head in FUNCTION.findall(read(path))):
+        if any(not re.search(r"\bensures\b", head) for _, head in FUNCTION.findall(read(path))):
             found.add(path.split("/")[1])
     return found
 

@@ -62,25 +62,16 @@ number() {
     misused "$1 is a number from $3 to 2147483647, and not \"$2\""
 }
 
-# toolchain: the folder of the kit's programs for this kind of processor
-toolchain() {
+# kit: the folder of the Rattle kit, with its programs in bin/ and its C compiler in toolchain/bin
+kit() {
     command -v rt > /dev/null || {
         echo "$name: rt, the Rattle toolchain's command, is not on the PATH" >&2
         return 2
     }
-    echo "$(cd "$(dirname "$(rt doc)")/.." && pwd)/on/$(uname -m)/toolchain"
+    dirname "$(rt doc)"
 }
 
-# program TOOLCHAIN PATH ARGUMENT..: runs a program for x86-64 by the kit's loader, and by its emulator where it has one
-program() (
-    kit=$1
-    shift
-    set -- "$kit/lib/ld-linux-x86-64.so.2" --library-path "$kit/lib" "$@"
-    [ ! -x "$kit/bin/qemu-x86_64" ] || set -- "$kit/bin/qemu-x86_64" "$@"
-    exec "$@"
-)
-
-# alone FOLDER COMMAND..: a command that proves in a repository's folder, when no other does: two at once undo each other's work. The lock is flock's, on
+# alone FOLDER COMMAND..: a command that builds in a repository's target/, when no other does (rt sees to the crates' folders itself). The lock is flock's, on
 # the folder itself, which need not be writable; where there is no flock the command is run without it.
 alone() (
     if command -v flock > /dev/null && [ -r "$1" ] && exec 9< "$1"; then

@@ -10,9 +10,9 @@ OPERATORS = {k: list(v) for k, v in OPERATORS.items()} | {'<<': ['>>'], '>>': ['
 COMPARISONS = {'<': ['<=', '>'], '<=': ['<', '>='], '>': ['>=', '<'], '>=': ['>', '<='], '==': ['!=', '<='], '!=': ['==', '<']}
 ANTT_OPERATORS = {'+': ['-', '*'], '-': ['+'], '*': ['+', '/'], '/': ['*', '%'], '%': ['/'], '^': ['*'], '&&': ['||'], '||': ['&&']}
 ANTT_RELATIONS = {'≤': ['<'], '<': ['≤'], '≡': ['≢'], '≢': ['≡']}
-ANTT_WORDS = {'leb': ['ltb', 'eqb'], 'ltb': ['leb', 'eqb'], 'eqb': ['leb', 'ltb'], 'min': ['max'], 'max': ['min'], 'true': ['false'], 'false': ['true']}
-# names that an edit may have to bring in, and where they come from
-BROUGHT = {'leb', 'ltb', 'eqb', '||', '&&', 'true', 'false', '≢', '≡', 'min', 'max', *ANTT_OPERATORS, *ANTT_RELATIONS}
+ANTT_WORDS = {'leb': ['ltb', 'eqb'], 'ltb': ['leb', 'eqb'], 'eqb': ['leb', 'ltb'], 'nat_le': ['nat_lt', 'nat_eq'], 'nat_lt': ['nat_le', 'nat_eq'], 'nat_eq': ['nat_le', 'nat_lt'],
+              'min': ['max'], 'max': ['min'], 'true': ['false'], 'false': ['true']}
+# where a name comes from that an edit may have to bring in
 HOME = 'Rattle.std.specs.Prelude'
 NUMBER = re.compile(r'(?<![\w.«{])(0x[0-9A-Fa-f]+|0b[01]+|\d+)(?=(?:u8|u32|u64|usize)?(?!\w))|(?<=\.\.)(\d+)')
 
@@ -131,10 +131,10 @@ def antt_rules(part, tables):
     """All edits of one part of an antt file, as span, text and kind."""
     yield from by_table(part, r'(?<= )(&&|\|\||[-+*/%^])(?= )', ANTT_OPERATORS, 'operator')
     yield from by_table(part, r'(?<= )([≤<≡≢])(?= )', ANTT_RELATIONS, 'comparison')
-    yield from by_table(part, r'(?<![\w.«])(leb|ltb|eqb|min|max|true|false)(?![\w»])', ANTT_WORDS, 'test')
+    yield from by_table(part, r'(?<![\w.«])(nat_le|nat_lt|nat_eq|leb|ltb|eqb|min|max|true|false)(?![\w»])', ANTT_WORDS, 'test')
     yield from by_numbers(part)
     for record in tables.fields.values():
-        yield from by_types(part, record, r'(?<=[\w)]\.)([a-z]\w*)', 'register')
+        yield from by_types(part, record, r'(?<=[\w)»]\.)(«?\w+»?)', 'register')
     yield from by_types(part, part.bound, r"(?<![\w.«′'])([a-z]\w*)(?![\w»′'])(?! = )", 'parameter')
     for group in tables.groups:
         for m in re.finditer(r"(?<![\w.])(«?[A-Z]\w*»?)(?![\w»])", part.text):
@@ -193,7 +193,9 @@ def edits_of(path, text, parts, rules, tables, prefix):
 def bring_for(new, names):
     """The name that an edit has to bring in, if any."""
     word = new if re.fullmatch(r'\w+', new) else f'◌{new}◌'
-    return None if names is None or word in names or new not in BROUGHT else f'{HOME}.{{{word}}}'
+    if names is None or word in names or not (new in ANTT_WORDS or new in ANTT_OPERATORS or new in ANTT_RELATIONS):
+        return None
+    return f'{HOME}.{{{word}}}'
 
 
 def chosen(edits, seed, most):

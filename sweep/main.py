@@ -72,7 +72,6 @@ def definition_edits(crate):
     for path, text in zip(paths, whole):
         names, groups = texts.imported(text)
         scope = {n: ' → '.join(t) for n, t in types.items() if n in names or f'\n  {n} ' in text or f'pub {n} :' in text}
-        scope = {n: t for n, t in scope.items() if n[0].islower() or t.endswith('Type 0')}  # a capital is a predicate's, or a constructor's
         tables = SimpleNamespace(fields=fields, groups=groups, scope=scope)
         files.append(edits.edits_of(path, text, texts.antt_parts(text, types), edits.antt_rules, tables, f'{area_of(crate)}/{path.stem}'))
     return files
