@@ -50,7 +50,7 @@ module _ (κs : Lfts 5) (a : Dens κs cpu-write-u8-kinds.ps) where
   Written = AtExit (ended_of 5 cpu-write-u8-kinds.ps cpu-write-u8-kinds.r) κs
 
   abbrev left : Written → Memory
-  left e = lent e.1.1.0 e.1.1.1.0 e.1.1.1.1.0 e.1.1.1.1.1.0 e.1.1.1.1.1.1.0
+  left e = mem e.1.1.0.now e.1.1.1.0.now e.1.1.1.1.0.now e.1.1.1.1.1.0.now e.1.1.1.1.1.1.0.now
 
   pub cpu-write-u8-determined : OneOutcome (cpu-write-u8.Post κs a) left
   cpu-write-u8-determined r r' e e' p q = (write-of r r' p q, ap (λ (d : Device). d.memory) (next_of p q))

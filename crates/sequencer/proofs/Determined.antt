@@ -17,7 +17,7 @@ abbrev Stored : Lfts 5 → Type 0
 Stored κs = AtExit (ended_of 5 plane-set-kinds.ps plane-set-kinds.r) κs
 
 abbrev left : (κs : Lfts 5) → Stored κs → Memory
-left κs e = lent e.1.0 e.1.1.0 e.1.1.1.0 e.1.1.1.1.0 e.1.1.1.1.1.0
+left κs e = mem e.1.0.now e.1.1.0.now e.1.1.1.0.now e.1.1.1.1.0.now e.1.1.1.1.1.0.now
 
 module _ (κs : Lfts 5) (a : Dens κs plane-set-kinds.ps) where
   pub plane-set-determined : OneOutcome (plane-set.Post κs a) (left κs)

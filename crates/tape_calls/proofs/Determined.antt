@@ -49,7 +49,7 @@ module _ (κs : Lfts 5) (a : Dens κs perform-kinds.ps) where
   Done = AtExit (ended_of 5 perform-kinds.ps perform-kinds.r) κs
 
   abbrev left : Done → Memory
-  left e = lent e.1.1.0 e.1.1.1.0 e.1.1.1.1.0 e.1.1.1.1.1.0 e.1.1.1.1.1.1.0
+  left e = mem e.1.1.0.now e.1.1.1.0.now e.1.1.1.1.0.now e.1.1.1.1.1.0.now e.1.1.1.1.1.1.0.now
 
   pub perform-determined : OneOutcome (perform.Post κs a) left
   perform-determined r r' e e' p q = (

@@ -20,7 +20,7 @@ module _ (κs : Lfts 7) (a : Dens κs run-kinds.ps) where
   Played = AtExit (ended_of 7 run-kinds.ps run-kinds.r) κs
 
   abbrev after : Played → Memory
-  after e = lent e.1.1.1.0 e.1.1.1.1.0 e.1.1.1.1.1.0 e.1.1.1.1.1.1.0 e.1.1.1.1.1.1.1.0
+  after e = mem e.1.1.1.0.now e.1.1.1.1.0.now e.1.1.1.1.1.0.now e.1.1.1.1.1.1.0.now e.1.1.1.1.1.1.1.0.now
 
   abbrev text : Played → List ℕ
   text e = e.1.1.1.1.1.1.1.1.0.now
