@@ -1,6 +1,5 @@
 -- `deplane` does as the machine: refused by `judge_offset`'s number, else the pixels that `remake` leaves.
 use mathlib.Core.Path.{refl}
-use borrow.Author.Rules.{rules}
 use Rattle.machine.proofs.Laws.{perform-done, perform-refused, refusal-some}
 use Rattle.machine.specs.Step.{vram_step}
 use Rattle.machine.specs.Calls.{vram_plan}

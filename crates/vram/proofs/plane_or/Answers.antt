@@ -1,5 +1,4 @@
 -- `plane_or` is `plane_store` of its kind.
-use borrow.Author.Rules.{rules}
 use Rattle.machine.specs.Step.{vram_step}
 use Rattle.machine.specs.Calls.{vram_plan}
 use Rattle.vram.proofs.plane_or.Goals as goal

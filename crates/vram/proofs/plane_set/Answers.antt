@@ -1,5 +1,4 @@
 -- `plane_set` is `plane_store` of its kind.
-use borrow.Author.Rules.{rules}
 use Rattle.machine.specs.Step.{vram_step}
 use Rattle.machine.specs.Calls.{vram_plan}
 use Rattle.vram.proofs.plane_set.Goals as goal

@@ -1,5 +1,4 @@
 -- `write_u8` does as the machine, whose plan for it is that of `plane_set`.
-use borrow.Author.Rules.{rules}
 use Rattle.machine.specs.Step.{vram_step}
 use Rattle.machine.specs.Calls.{vram_plan}
 use Rattle.vram.proofs.write_u8.Goals as goal

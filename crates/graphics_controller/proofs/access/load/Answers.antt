@@ -1,6 +1,5 @@
 -- `load` reads the four planes at an offset: each index is in range by the shape.
 use mathlib.Core.Path.{refl}
-use borrow.Author.Rules.{rules}
 use Rattle.machine.specs.Deeds.{loaded}
 use Rattle.graphics_controller.proofs.access.load.Goals as goal
 

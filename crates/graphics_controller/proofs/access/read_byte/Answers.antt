@@ -1,7 +1,6 @@
 -- `read_byte` answers as the machine from the latches: by the read mode.
 use native.Mathlib.Omega.{arith}
 use mathlib.Core.Path.{ap}
-use borrow.Author.Rules.{rules}
 use Rattle.machine.specs.Deeds.{latch}
 use Rattle.graphics_controller.specs.Reads.{read_byte}
 use Rattle.graphics_controller.proofs.Accesses.{select-small}

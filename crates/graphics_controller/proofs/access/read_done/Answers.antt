@@ -1,5 +1,4 @@
 -- `read_done` answers from the latches and counts: the contracts of the mode, the byte and the counter put together.
-use borrow.Author.Rules.{rules}
 use Rattle.graphics_controller.proofs.access.read_done.Goals as goal
 
 pub returns : goal.returns

@@ -1,6 +1,5 @@
 -- `turned_away` leaves registers and latches as they were; the counters are those of `counted_refusal`.
 use mathlib.Core.Path.{ap}
-use borrow.Author.Rules.{rules}
 use Rattle.machine.specs.Graphics.{gc_of}
 use Rattle.machine_types.specs.declared.gc.GraphicsControllerStats.{GraphicsControllerStats}
 use Rattle.graphics_controller.proofs.access.turned_away.Goals as goal

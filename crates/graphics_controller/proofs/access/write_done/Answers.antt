@@ -1,6 +1,5 @@
 -- `write_done` raises the write mode's counter alone: from `counted_write`, at the mode of the registers.
 use mathlib.Core.Path.{ap, ◌∙◌}
-use borrow.Author.Rules.{rules}
 use Rattle.machine.specs.Calls.{counted, write_counter}
 use Rattle.machine.specs.Graphics.{gc_of}
 use Rattle.machine_types.specs.declared.gc.GraphicsControllerStats.{GraphicsControllerStats}

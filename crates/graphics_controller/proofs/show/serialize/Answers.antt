@@ -1,7 +1,6 @@
 -- `serialize` answers as the machine: an empty part by the judge's number, else eight pixels from 8 times the offset on.
 use native.Mathlib.Omega.{arith}
 use mathlib.Core.Path.{◌∙◌}
-use borrow.Author.Rules.{rules}
 use Rattle.machine.proofs.Laws.{refusal-some}
 use Rattle.machine.specs.Memory.{mem}
 use Rattle.refusals_memory.proofs.Told.{as-told}

@@ -1,6 +1,5 @@
 -- `target_of` has a bit for each plane that is visited and that the mask has, and the offset stored at: by `both-masks`, and where every plane is visited by `mask-alone`.
 use mathlib.Core.Path.{sym, ◌∙◌}
-use borrow.Author.Rules.{rules}
 use Rattle.graphics_visits.proofs.Planes.{both-masks, mask-alone, stays}
 use Rattle.graphics_visits.proofs.inner.target_of.Goals as goal
 

@@ -1,15 +1,12 @@
 -- `visit` lays the bytes of the planes whose bits are set, and answers the bits of each that changed: after k turns, of those below k.
-use Prim.Native.Nat.{ℕ, ◌-◌, ◌≤◌}
+use Prim.Native.Nat.{ℕ}
 use native.Mathlib.Omega.{arith}
 use mathlib.Core.Path.{◌≡◌, refl, sym, ◌∙◌}
 use mathlib.Core.Bool.{Bool}
-use lib.ListN.{length}
-use borrow.Author.Rules.{rules}
 use Rattle.bits.specs.Bit.{bit, is_one}
-use Rattle.machine.proofs.Laws.{below, laid_none, laid-all}
-use Rattle.machine.specs.Deeds.{latch, laid, changed_at}
-use Rattle.machine.specs.Memory.{mem, Shaped}
-use Rattle.graphics_bytes.specs.PlaneBytes.{four}
+use Rattle.machine.proofs.Laws.{laid_none, laid-all}
+use Rattle.machine.specs.Deeds.{latch}
+use Rattle.machine.specs.Memory.{mem}
 use Rattle.graphics_visits.proofs.Planes.{turn, turn-number, none-visited}
 use Rattle.graphics_visits.proofs.inner.visit.Goals as goal
 

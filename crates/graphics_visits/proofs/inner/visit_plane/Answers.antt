@@ -1,7 +1,6 @@
 -- `visit_plane` lays the plane's byte where its bit is set, and nothing else, and answers the bits that changed: from `lay` and the test of the bit.
 use native.Mathlib.Omega.{arith}
 use mathlib.Core.Path.{◌≡◌, sym}
-use borrow.Author.Rules.{rules}
 use Rattle.bits.proofs.Bitwise.{bit-set, bit-clear}
 use Rattle.bits.specs.Bit.{bit}
 use Rattle.machine.specs.Deeds.{changed_at}

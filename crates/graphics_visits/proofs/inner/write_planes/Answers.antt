@@ -1,12 +1,10 @@
 -- `write_planes` does the mode's deed: nothing where no plane is stored, else the bytes laid by `visit` and the pixels remade once.
 use native.Mathlib.Omega.{arith}
-use mathlib.Core.Path.{◌≡◌, ap, ◌∙◌}
-use borrow.Author.Rules.{rules}
+use mathlib.Core.Path.{ap, ◌∙◌}
 use Rattle.machine_types.specs.declared.gc.WriteMode.{WriteMode}
-use Rattle.bits.specs.Bit.{bit, is_one}
 use Rattle.machine.specs.Graphics.{write_mode}
 use Rattle.machine.specs.Calls.{write_deed}
-use Rattle.machine.specs.Deeds.{latch, laid, remade, memory_after}
+use Rattle.machine.specs.Deeds.{remade, memory_after}
 use Rattle.machine.specs.Memory.{mem}
 use Rattle.machine.specs.Answers.{changed_value}
 use Rattle.machine.proofs.Laws.{stored-at-le}
@@ -41,8 +39,8 @@ returns c =
     let r = a.gc.registers in
     -- the bytes laid and the pixels remade are the mode's deed
     let some_stored = write-some c.write_mode-mode.result r a.seq a.address a.at a.byte a.gc.latches m _ _ _
-        c.target_of-target.ensures.0 c.if-planes-eq0.false c.plane_bytes-bytes.ensures c.target_of-target.ensures.1
-        ∙ ap (λ (w : WriteMode). memory_after (write_deed w r a.seq a.address a.at a.byte) a.gc.latches m) c.write_mode-mode.ensures in (
+    c.target_of-target.ensures.0 c.if-planes-eq0.false c.plane_bytes-bytes.ensures c.target_of-target.ensures.1
+    ∙ ap (λ (w : WriteMode). memory_after (write_deed w r a.seq a.address a.at a.byte) a.gc.latches m) c.write_mode-mode.ensures in (
       c.remake.ensures ∙ ap (remade c.target_of-target.result.place) c.visit-changed.ensures.0 ∙ some_stored,
       write-numbers _ _ _ _ _ _ c.visit-changed.ensures.1 c.remake.ensures c.target_of-target.ensures.1,
     )

@@ -1,5 +1,4 @@
 -- `plane_store` judges and then stores: the machine's direct store of each kind, by `store-refused` and `store-done`.
-use borrow.Author.Rules.{rules}
 use Rattle.machine.specs.Memory.{mem}
 use Rattle.refusals_access.proofs.DirectJudged.{accepted}
 use Rattle.sequencer.proofs.DirectLaws.{store-refused, store-done}
