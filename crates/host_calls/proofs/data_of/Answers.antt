@@ -1,11 +1,10 @@
 -- `data_of` answers 6 where a number selects no register, else as `write_data` of the record that is meant; one register moves where it is accepted.
 use mathlib.Core.Path.{◌≡◌, ap}
 use mathlib.Core.Bool.{true}
-use Rattle.machine.specs.Answers.{one, outcome}
+use Rattle.machine.specs.Answers.{one}
 use Rattle.machine.specs.Calls.{gc_write_data}
 use Rattle.answers.specs.Answers.{answer_said}
 use Rattle.host_records.specs.Records.{known_gc}
-use Rattle.host_calls.specs.Hosted.{graphics_hosted}
 use Rattle.host_calls.proofs.Laws.{unknown-of, known_of, graphics-known, data-unknown, data-refused, data-done}
 use Rattle.host_calls.proofs.data_of.Goals as goal
 

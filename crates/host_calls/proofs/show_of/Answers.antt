@@ -1,5 +1,5 @@
 -- Refusal 6 where a number selects no register, else the pixels that `show_pixels` hands back.
-use mathlib.Core.Path.{refl, ◌∙◌}
+use mathlib.Core.Path.{refl}
 use Rattle.machine.specs.Memory.{mem}
 use Rattle.machine.specs.Answers.{said, shown, no_pixels}
 use Rattle.machine.specs.Graphics.{shift_mode}
