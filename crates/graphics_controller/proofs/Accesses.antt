@@ -26,7 +26,8 @@ use Rattle.machine.specs.Sequencer.{fits_seq, chain_four, stored_at, answers_fro
 use Rattle.machine.specs.Address.{in_window, a0, offset}
 use Rattle.machine.specs.DataPath.{map_selected, selected_plane, peeked_plane}
 use Rattle.machine.specs.Deeds.{byte, latch, loaded, changed_at, shown_in, latches_after, memory_after, value_of}
-use Rattle.machine.specs.Calls.{refuse, fits_both, access_number, shows, show_number, last_shown, pixels_number, read_reply, write_deed, cpu_plan, cpu_read, cpu_peek, cpu_write, serialize, show_pixels}
+use Rattle.machine.specs.Calls.{refuse, fits_both, access_number, shows, show_number, last_shown, pixels_number, read_reply}
+use Rattle.machine.specs.Calls.{write_deed, cpu_plan, cpu_read, cpu_peek, cpu_write, serialize, show_pixels}
 use Rattle.machine.specs.Calls.{CpuPlan, read_counter, write_counter, refused_counter, no_counter, refusal_counter, counted}
 use Rattle.machine.specs.Step.{device, lifted, cpu_refused, cpu_perform, cpu_step}
 use Rattle.machine.proofs.Laws.{both, refuse-0, sound-facts, AtOffset, answered-refused, none-raised}

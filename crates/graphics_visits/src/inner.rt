@@ -68,7 +68,8 @@ fn visit_plane(
     at: usize,
 ) -> u8
     requires { Shaped (mem p0.old p1.old p2.old p3.old picture.now) × ((at < length p0.old) × (plane ≤ 3)) }
-    ensures { (mem p0.new p1.new p2.new p3.new picture.now ≡ pick (is_one (bit plane planes)) (laid at (λ q. eqb q plane) (λ q. latch bytes plane) (mem p0.old p1.old p2.old p3.old picture.now)) (mem p0.old p1.old p2.old p3.old picture.now))
+    ensures { (mem p0.new p1.new p2.new p3.new picture.now
+        ≡ pick (is_one (bit plane planes)) (laid at (λ q. eqb q plane) (λ q. latch bytes plane) (mem p0.old p1.old p2.old p3.old picture.now)) (mem p0.old p1.old p2.old p3.old picture.now))
         × (result ≡ changed_at (mem p0.old p1.old p2.old p3.old picture.now) (mem p0.new p1.new p2.new p3.new picture.now) at plane) }
 {
     if planes & (1 << plane) != 0 {
@@ -129,7 +130,8 @@ pub fn write_planes(
     byte: u8,
 ) -> Changed
     requires { Shaped (mem p0.old p1.old p2.old p3.old picture.old) × ((at < length p0.old) × ((fits_seq seq ≡ true) × (a0 ≡ bit0 address))) }
-    ensures { (mem p0.new p1.new p2.new p3.new picture.new ≡ memory_after (write_deed (write_mode gc.registers) gc.registers seq address at byte) gc.latches (mem p0.old p1.old p2.old p3.old picture.old))
+    ensures { (mem p0.new p1.new p2.new p3.new picture.new
+        ≡ memory_after (write_deed (write_mode gc.registers) gc.registers seq address at byte) gc.latches (mem p0.old p1.old p2.old p3.old picture.old))
         × (changed_value result ≡ changes_of (changed_at (mem p0.old p1.old p2.old p3.old picture.old) (mem p0.new p1.new p2.new p3.new picture.new) (stored_at seq at))) }
 {
     let registers = gc.registers;

@@ -139,7 +139,8 @@ pub fn iddesmar_seq_plane_set(
     a0: u8,
     byte: u8,
 ) -> Stored
-    ensures { StoredAs result (mem p0.new p1.new p2.new p3.new picture.new) (direct_hosted seq (mem p0.old p1.old p2.old p3.old picture.old) (changes 0 0 0 0) (seq_plane_set plane offset (is_set a0) byte)) }
+    ensures { StoredAs result (mem p0.new p1.new p2.new p3.new picture.new)
+        (direct_hosted seq (mem p0.old p1.old p2.old p3.old picture.old) (changes 0 0 0 0) (seq_plane_set plane offset (is_set a0) byte)) }
 {
     if !known_sequencer(seq) {
         return unknown_stored();
@@ -163,7 +164,8 @@ pub fn iddesmar_seq_plane_and(
     a0: u8,
     byte: u8,
 ) -> Stored
-    ensures { StoredAs result (mem p0.new p1.new p2.new p3.new picture.new) (direct_hosted seq (mem p0.old p1.old p2.old p3.old picture.old) (changes 0 0 0 0) (seq_plane_and plane offset (is_set a0) byte)) }
+    ensures { StoredAs result (mem p0.new p1.new p2.new p3.new picture.new)
+        (direct_hosted seq (mem p0.old p1.old p2.old p3.old picture.old) (changes 0 0 0 0) (seq_plane_and plane offset (is_set a0) byte)) }
 {
     if !known_sequencer(seq) {
         return unknown_stored();
@@ -187,7 +189,8 @@ pub fn iddesmar_seq_plane_or(
     a0: u8,
     byte: u8,
 ) -> Stored
-    ensures { StoredAs result (mem p0.new p1.new p2.new p3.new picture.new) (direct_hosted seq (mem p0.old p1.old p2.old p3.old picture.old) (changes 0 0 0 0) (seq_plane_or plane offset (is_set a0) byte)) }
+    ensures { StoredAs result (mem p0.new p1.new p2.new p3.new picture.new)
+        (direct_hosted seq (mem p0.old p1.old p2.old p3.old picture.old) (changes 0 0 0 0) (seq_plane_or plane offset (is_set a0) byte)) }
 {
     if !known_sequencer(seq) {
         return unknown_stored();

@@ -108,7 +108,8 @@ pub extern "C" fn iddesmar_seq_plane_set(
     a0: u8,
     byte: u8,
 ) -> Stored
-    ensures { StoredAs result (mem p0.new p1.new p2.new p3.new picture.new) (direct_hosted seq (mem p0.old p1.old p2.old p3.old picture.old) (changes 0 0 0 0) (seq_plane_set plane offset (is_set a0) byte)) }
+    ensures { StoredAs result (mem p0.new p1.new p2.new p3.new picture.new)
+        (direct_hosted seq (mem p0.old p1.old p2.old p3.old picture.old) (changes 0 0 0 0) (seq_plane_set plane offset (is_set a0) byte)) }
 {
     host::direct::iddesmar_seq_plane_set(seq, p0, p1, p2, p3, picture, plane, offset, a0, byte)
 }
@@ -126,7 +127,8 @@ pub extern "C" fn iddesmar_seq_plane_and(
     a0: u8,
     byte: u8,
 ) -> Stored
-    ensures { StoredAs result (mem p0.new p1.new p2.new p3.new picture.new) (direct_hosted seq (mem p0.old p1.old p2.old p3.old picture.old) (changes 0 0 0 0) (seq_plane_and plane offset (is_set a0) byte)) }
+    ensures { StoredAs result (mem p0.new p1.new p2.new p3.new picture.new)
+        (direct_hosted seq (mem p0.old p1.old p2.old p3.old picture.old) (changes 0 0 0 0) (seq_plane_and plane offset (is_set a0) byte)) }
 {
     host::direct::iddesmar_seq_plane_and(seq, p0, p1, p2, p3, picture, plane, offset, a0, byte)
 }
@@ -144,7 +146,8 @@ pub extern "C" fn iddesmar_seq_plane_or(
     a0: u8,
     byte: u8,
 ) -> Stored
-    ensures { StoredAs result (mem p0.new p1.new p2.new p3.new picture.new) (direct_hosted seq (mem p0.old p1.old p2.old p3.old picture.old) (changes 0 0 0 0) (seq_plane_or plane offset (is_set a0) byte)) }
+    ensures { StoredAs result (mem p0.new p1.new p2.new p3.new picture.new)
+        (direct_hosted seq (mem p0.old p1.old p2.old p3.old picture.old) (changes 0 0 0 0) (seq_plane_or plane offset (is_set a0) byte)) }
 {
     host::direct::iddesmar_seq_plane_or(seq, p0, p1, p2, p3, picture, plane, offset, a0, byte)
 }

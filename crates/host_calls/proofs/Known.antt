@@ -142,7 +142,8 @@ module _ (v : Value) where
   abbrev device_of : Held → Device
   device_of d = device (controller_of d.gc) d.memory
 
-  cpu-meant-next : (g : ControllerRecord) (s : SequencerRecord) (m : Memory) (c : CpuCall) → true ≡ known_both g s → lifted device_of (cpu_hosted g s m v c) ≡ cpu_step (controller_of g) (sequencer_of s) m c
+  cpu-meant-next : (g : ControllerRecord) (s : SequencerRecord) (m : Memory) (c : CpuCall) → true ≡ known_both g s
+      → lifted device_of (cpu_hosted g s m v c) ≡ cpu_step (controller_of g) (sequencer_of s) m c
   unfolding cpu_hosted
   cpu-meant-next g s m c e =
       let o : Outcome Device = cpu_step (controller_of g) (sequencer_of s) m c in
@@ -170,7 +171,8 @@ module _ (v : Value) where
       (known-runs (host_step v h c).next cs (known-stays v h c e) ∙ ap (λ (o : Outcome State). (run o.next cs).answers) o)
 
   -- from the starts
-  pub started-runs : (x : ℕ) (m : Memory) (cs : List Call) → host_answers v (host (controller_record_of x fresh_gc) (sequencer_record_of fresh_seq) m) cs ≡ (run (state fresh_gc fresh_seq m) cs).answers
+  pub started-runs : (x : ℕ) (m : Memory) (cs : List Call)
+      → host_answers v (host (controller_record_of x fresh_gc) (sequencer_record_of fresh_seq) m) cs ≡ (run (state fresh_gc fresh_seq m) cs).answers
   started-runs x m cs = known-runs (host (controller_record_of x fresh_gc) (sequencer_record_of fresh_seq) m) cs (known_start x m)
       ∙ ap₂ (λ (g : GraphicsController) (s : Sequencer). (run (state g s m) cs).answers) (controller-meant x fresh_gc) (sequencer-meant fresh_seq)
 

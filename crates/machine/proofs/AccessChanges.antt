@@ -73,7 +73,8 @@ changing =
     ∷ says [] (case11 ++ (cpu (cpu_write 0xA0000 false 5) ∷ []))
     ∷ says [] case10
     -- vram's stores: the byte put down counts, and not the one handed in
-    ∷ says (vram (write_u8 2 3 0x7F) ∷ []) (vram (plane_and 2 3 0x9F) ∷ vram (plane_and 2 3 0x9F) ∷ vram (plane_or 2 3 0x70) ∷ vram (write_u8 2 3 0x80) ∷ vram (plane_set 2 3 0x81) ∷ vram (deplane 3) ∷ [])
+    ∷ says (vram (write_u8 2 3 0x7F) ∷ [])
+    (vram (plane_and 2 3 0x9F) ∷ vram (plane_and 2 3 0x9F) ∷ vram (plane_or 2 3 0x70) ∷ vram (write_u8 2 3 0x80) ∷ vram (plane_set 2 3 0x81) ∷ vram (deplane 3) ∷ [])
     -- the sequencer's, through Map Mask 4; what it stops answers 0
     ∷ says (vram (write_u8 2 3 0x7F) ∷ (seq_to 4 4 ++ seq_to 2 4))
     (direct (seq_plane_and 2 3 true 0x9F) ∷ direct (seq_plane_and 2 3 true 0x9F) ∷ direct (seq_plane_or 2 3 true 0x70) ∷ direct (seq_plane_set 2 3 true 0x80)
@@ -99,7 +100,8 @@ changing =
     ∷ says painted (vram (write_u8 4 0 0) ∷ vram (plane_set 0 8 0) ∷ vram (plane_and 4 0 0) ∷ vram (plane_or 3 8 0xFF) ∷ direct (seq_plane_set 4 0 false 0) ∷ direct (seq_plane_and 0 8 false 0)
     ∷ direct (seq_plane_or 7 0 false 0xFF) ∷ cpu (cpu_write 0xB0000 false 0) ∷ cpu (cpu_write 0xA0008 false 0) ∷ [])
     ∷ says_from odd [] (direct (seq_plane_set 0 0 false 1) ∷ direct (seq_plane_and 0 0 false 1) ∷ direct (seq_plane_or 0 0 false 1) ∷ cpu (cpu_write 0xA0000 false 1) ∷ [])
-    ∷ says_from misshapen [] (vram (write_u8 0 0 1) ∷ vram (plane_set 0 0 1) ∷ vram (plane_and 0 0 1) ∷ vram (plane_or 0 0 1) ∷ direct (seq_plane_set 0 0 false 1) ∷ cpu (cpu_write 0xA0000 false 1) ∷ [])
+    ∷ says_from misshapen []
+    (vram (write_u8 0 0 1) ∷ vram (plane_set 0 0 1) ∷ vram (plane_and 0 0 1) ∷ vram (plane_or 0 0 1) ∷ direct (seq_plane_set 0 0 false 1) ∷ cpu (cpu_write 0xA0000 false 1) ∷ [])
     -- a picture that does not match: a store that changes no bit remakes its eight pixels, one that the mask stopped everywhere none
     ∷ (over_unmade 15 (vram (plane_or 1 1 0)) ++ (over_unmade 15 (direct (seq_plane_and 3 1 false 0xFF)) ++ over_unmade 15 (cpu (cpu_write 0xA0001 false 0xFF))))
     ∷ (over_unmade 0 (direct (seq_plane_and 3 1 false 0xFF)) ++ over_unmade 0 (cpu (cpu_write 0xA0001 false 0xFF)))

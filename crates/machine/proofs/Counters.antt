@@ -23,7 +23,8 @@ use Rattle.machine.specs.Graphics.{read_mode, write_mode, memory_map}
 use Rattle.machine.specs.Address.{in_window, offset}
 use Rattle.machine.specs.Calls.{GraphicsCall, gc_reset, gc_chain, gc_chain4, gc_memory_map, gc_odd_even, gc_shift_mode, gc_read_address, gc_read_data, gc_write_address}
 use Rattle.machine.specs.Calls.{gc_write_data, gc_map_address, gc_number_of, gc_value, gc_next, refuse, fits_both, access_number, show_number, pixels_number}
-use Rattle.machine.specs.Calls.{CpuCall, cpu_read, cpu_peek, cpu_write, serialize, show_pixels, write_counter, read_counter, refused_counter, no_counter, is_counted, refusal_counter, counted, cpu_plan}
+use Rattle.machine.specs.Calls.{CpuCall, cpu_read, cpu_peek, cpu_write, serialize, show_pixels, write_counter, read_counter}
+use Rattle.machine.specs.Calls.{refused_counter, no_counter, is_counted, refusal_counter, counted, cpu_plan}
 use Rattle.machine.specs.Step.{graphics_step, cpu_step, Device, State, Call, vram, sequencer, direct, graphics, cpu, step, run}
 use Rattle.machine.specs.Claims.{turns_away, total, seven_total, accesses, since_reset, counts_where, tally_where, in_six, in_seven, tally, seven_tally}
 use Rattle.machine.proofs.Laws.{answered-number, none-raised}

@@ -40,7 +40,8 @@ directly =
     ∷ each (λ x. says (vram (write_u8 1 4 0x44) ∷ vram (write_u8 1 5 0x55) ∷ seq_to 4 x) (direct (seq_gc_read_u8 1 5 false) ∷ direct (seq_cpu_read_u8 1 5 false) ∷ direct (seq_peek_u8 1 5 false) ∷ []))
     (12 ∷ 8 ∷ 4 ∷ 0 ∷ [])
     -- set, and, or: of vram.rs, with no mask; of the sequencer
-    ∷ each (λ p. says (vram (write_u8 p 2 0xCC) ∷ []) (vram (plane_and p 2 0xAA) ∷ vram (read_u8 p 2) ∷ vram (plane_or p 2 0x0F) ∷ vram (peek_u8 p 2) ∷ vram (plane_set p 2 0x21) ∷ vram (read_u8 p 2) ∷ []))
+    ∷ each (λ p. says (vram (write_u8 p 2 0xCC) ∷ [])
+    (vram (plane_and p 2 0xAA) ∷ vram (read_u8 p 2) ∷ vram (plane_or p 2 0x0F) ∷ vram (peek_u8 p 2) ∷ vram (plane_set p 2 0x21) ∷ vram (read_u8 p 2) ∷ []))
     (0 ∷ 1 ∷ 2 ∷ 3 ∷ [])
     ∷ each (λ p. says (seq_to 4 4 ++ (seq_to 2 15 ++ (direct (seq_plane_set p 2 false 0xCC) ∷ [])))
     (direct (seq_plane_and p 2 false 0xAA) ∷ vram (read_u8 p 2) ∷ direct (seq_plane_or p 2 false 0x0F) ∷ vram (read_u8 p 2) ∷ []))

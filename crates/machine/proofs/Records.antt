@@ -22,7 +22,8 @@ use Rattle.machine.specs.Answers.{Value, Said, answered}
 use Rattle.machine.specs.Graphics.{register_number, with_address, keeps, written, with_data}
 use Rattle.machine.specs.Sequencer.{with_seq_address, seq_number, seq_keeps, seq_written, with_seq_data, with_mark}
 use Rattle.machine.specs.Calls.{VramCall, read_u8, peek_u8, read_glyph, read_linear, serialize_linear, write_u8, plane_set, plane_and, plane_or, deplane}
-use Rattle.machine.specs.Calls.{SequencerCall, seq_reset, seq_clock, seq_set_clock_change_pending, seq_poll_clock_change, seq_read_address, seq_read_data, seq_write_address, seq_write_data, seq_number_of, seq_next}
+use Rattle.machine.specs.Calls.{SequencerCall, seq_reset, seq_clock, seq_set_clock_change_pending, seq_poll_clock_change, seq_read_address}
+use Rattle.machine.specs.Calls.{seq_read_data, seq_write_address, seq_write_data, seq_number_of, seq_next}
 use Rattle.machine.specs.Calls.{DirectCall, seq_cpu_read_u8, seq_peek_u8, seq_gc_read_u8, seq_read_linear, seq_serialize_linear, seq_plane_set, seq_plane_and, seq_plane_or}
 use Rattle.machine.specs.Calls.{GraphicsCall, gc_reset, gc_chain, gc_chain4, gc_memory_map, gc_odd_even, gc_shift_mode, gc_read_address, gc_read_data, gc_write_address, gc_write_data, gc_map_address}
 use Rattle.machine.specs.Calls.{gc_number_of, gc_next}

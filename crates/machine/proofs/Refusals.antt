@@ -25,9 +25,11 @@ use Rattle.machine.specs.Address.{in_window, offset}
 use Rattle.machine.specs.Deeds.{perform, value_of}
 use Rattle.machine.specs.Calls.{refuse, shows, offset_number, plane_number, place_number, shown_number, access_number, show_number, last_shown, pixels_number}
 use Rattle.machine.specs.Calls.{VramCall, read_u8, peek_u8, read_glyph, read_linear, serialize_linear, write_u8, plane_set, plane_and, plane_or, deplane, vram_plan}
-use Rattle.machine.specs.Calls.{SequencerCall, seq_reset, seq_clock, seq_set_clock_change_pending, seq_poll_clock_change, seq_read_address, seq_read_data, seq_write_address, seq_write_data, seq_number_of}
+use Rattle.machine.specs.Calls.{SequencerCall, seq_reset, seq_clock, seq_set_clock_change_pending, seq_poll_clock_change, seq_read_address}
+use Rattle.machine.specs.Calls.{seq_read_data, seq_write_address, seq_write_data, seq_number_of}
 use Rattle.machine.specs.Calls.{DirectCall, seq_cpu_read_u8, seq_peek_u8, seq_gc_read_u8, seq_read_linear, seq_serialize_linear, seq_plane_set, seq_plane_and, seq_plane_or, direct_plan}
-use Rattle.machine.specs.Calls.{GraphicsCall, gc_reset, gc_chain, gc_chain4, gc_memory_map, gc_odd_even, gc_shift_mode, gc_read_address, gc_read_data, gc_write_address, gc_write_data, gc_map_address, gc_number_of}
+use Rattle.machine.specs.Calls.{GraphicsCall, gc_reset, gc_chain, gc_chain4, gc_memory_map, gc_odd_even, gc_shift_mode}
+use Rattle.machine.specs.Calls.{gc_read_address, gc_read_data, gc_write_address, gc_write_data, gc_map_address, gc_number_of}
 use Rattle.machine.specs.Calls.{CpuCall, cpu_read, cpu_peek, cpu_write, serialize, show_pixels, cpu_plan, refused_counter, no_counter, is_counted, refusal_counter, counted}
 use Rattle.machine.specs.Step.{vram_step, sequencer_step, direct_step, graphics_step, device, cpu_after, cpu_refused, cpu_step, State, Call, vram, sequencer, direct, graphics, cpu, lifted}
 use Rattle.machine.specs.Step.{with_memory, with_seq, with_gc, with_device, step}

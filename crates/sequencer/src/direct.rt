@@ -31,7 +31,8 @@ fn store_masked(
     byte: u8,
 ) -> Changed
     requires { Shaped (mem p0.old p1.old p2.old p3.old picture.old) × ((offset < length p0.old) × ((plane ≤ 3) × (fits_seq seq ≡ true))) }
-    ensures { (mem p0.new p1.new p2.new p3.new picture.new ≡ memory_after (store_one (store_bit kind) plane (stored_at seq offset) (in_mask seq offset a0) byte) [] (mem p0.old p1.old p2.old p3.old picture.old))
+    ensures { (mem p0.new p1.new p2.new p3.new picture.new
+        ≡ memory_after (store_one (store_bit kind) plane (stored_at seq offset) (in_mask seq offset a0) byte) [] (mem p0.old p1.old p2.old p3.old picture.old))
         × (changed_value result ≡ changes_of (changed_at (mem p0.old p1.old p2.old p3.old picture.old) (mem p0.new p1.new p2.new p3.new picture.new) (stored_at seq offset))) }
 {
     let mask = inner::mask(seq, offset, a0);

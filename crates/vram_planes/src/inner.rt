@@ -59,7 +59,8 @@ pub fn lay(
     x: u8,
 ) -> u8
     requires { Shaped (mem p0.old p1.old p2.old p3.old picture.now) × ((at < length p0.old) × (plane ≤ 3)) }
-    ensures { (mem p0.new p1.new p2.new p3.new picture.now ≡ laid at (λ q. eqb q plane) (λ q. combines kind x (byte_of_plane (mem p0.old p1.old p2.old p3.old picture.now) q at)) (mem p0.old p1.old p2.old p3.old picture.now))
+    ensures { (mem p0.new p1.new p2.new p3.new picture.now
+        ≡ laid at (λ q. eqb q plane) (λ q. combines kind x (byte_of_plane (mem p0.old p1.old p2.old p3.old picture.now) q at)) (mem p0.old p1.old p2.old p3.old picture.now))
         × (result ≡ changed_at (mem p0.old p1.old p2.old p3.old picture.now) (mem p0.new p1.new p2.new p3.new picture.now) at plane) }
 {
     if plane == 0 {
@@ -99,7 +100,8 @@ pub fn store(
     x: u8,
 ) -> Changed
     requires { Shaped (mem p0.old p1.old p2.old p3.old picture.old) × ((at < length p0.old) × (plane ≤ 3)) }
-    ensures { (mem p0.new p1.new p2.new p3.new picture.new ≡ remade at (laid at (λ q. eqb q plane) (λ q. combines kind x (byte_of_plane (mem p0.old p1.old p2.old p3.old picture.old) q at)) (mem p0.old p1.old p2.old p3.old picture.old)))
+    ensures { (mem p0.new p1.new p2.new p3.new picture.new
+        ≡ remade at (laid at (λ q. eqb q plane) (λ q. combines kind x (byte_of_plane (mem p0.old p1.old p2.old p3.old picture.old) q at)) (mem p0.old p1.old p2.old p3.old picture.old)))
         × (changed_value result ≡ changes_of (changed_at (mem p0.old p1.old p2.old p3.old picture.old) (mem p0.new p1.new p2.new p3.new picture.new) at)) }
 {
     let number = lay(p0, p1, p2, p3, picture, plane, at, kind, x);

@@ -31,4 +31,5 @@ pub returns-in-Mode3 : goal.returns-in-Mode3
 returns-in-Mode3 c =
     let a = c.args in
     rw c.in-Mode3.is (c.logic_steps-in-Mode3.ensures
-    ∙ mode-3-are a.registers a.byte a.latches _ c.function-function.ensures _ (turned_by a.registers a.byte _ _ c.rotate_right_u8-turned.ensures c.rotate_count.ensures) _ c.spreads-data-in-Mode3.ensures)
+    ∙ mode-3-are a.registers a.byte a.latches _ c.function-function.ensures _ (turned_by a.registers a.byte _ _ c.rotate_right_u8-turned.ensures c.rotate_count.ensures)
+    _ c.spreads-data-in-Mode3.ensures)

@@ -16,4 +16,5 @@ returns-then-address-gt-WINDOW_B8000_LAST c = outside B8000_32K _ _ _ (above 0xB
 pub returns : goal.returns
 unfolding in_window mapped
 returns c =
-    inside B8000_32K _ _ _ (between 0xB8000 0xBFFFF _ c.if-address-lt-WINDOW_B8000_FIRST.false c.if-address-gt-WINDOW_B8000_LAST.false) (from_first _ 0xB8000 c.if-address-lt-WINDOW_B8000_FIRST.false (omega (arith, c.if-address-gt-WINDOW_B8000_LAST.false)))
+    inside B8000_32K _ _ _ (between 0xB8000 0xBFFFF _ c.if-address-lt-WINDOW_B8000_FIRST.false c.if-address-gt-WINDOW_B8000_LAST.false)
+    (from_first _ 0xB8000 c.if-address-lt-WINDOW_B8000_FIRST.false (omega (arith, c.if-address-gt-WINDOW_B8000_LAST.false)))
