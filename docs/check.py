@@ -2,11 +2,11 @@
 
 Names: in PROMISES.md, DECISIONS.md, CHANGING.md, the pages of docs/changes and both READMEs each word in backticks is a definition, theorem, function, type, field, crate, must-fail edit, operation
 of a tape's text, script or path of the tree, or stands in EXCEPTIONS. `a::b` is looked up part by part, `a_..` as the start of a name, `_b` as the end of one, and
-a word of capitals (`NAME-determined`) stands for anything. Where a page says in which crate or file a name stands, it must stand there:
+a word of capitals (`NAME-determined`) stands for anything, and what has no letter and no digit (`-`) is passed over. Where a page says in which crate or file a name stands, it must stand there:
 
     machine's `step`      fields' must-fail `map_from_bit_1`      graphics_visits: `stores_nothing`      an edit, or a definition, of that crate
     must-fail `read_of_0`, `write_of_0`                           edits of any crate
-    Calls: `vramPlan`, `unmasked`      Claims `InWindow`          definitions of a file Calls.antt, Claims.antt
+    Calls: `vram_plan`, `unmasked`     Claims `InWindow`          definitions of a file Calls.antt, Claims.antt
 
 A column of a table that is headed Old or Was has names that went, and is passed over.
 Paths: in every page each word that starts with a folder of the tree, and each name of a file by its ending, with or without backticks; a word of capitals stands for any.
@@ -27,7 +27,7 @@ ENDINGS = "md antt rt rs c h py txt list lines tape edit out".split()
 # Words in backticks that are no names of this tree, each kind with its reason.
 EXCEPTIONS = {
     # words of the languages, and of the kit
-    "requires", "ensures", "bool", "usize", "&mut", "get_or", "Option", "rt", "types", "Bool", "|", "#", "libc", "let", "abbrev", "unfolding",
+    "requires", "ensures", "bool", "usize", "&mut", "get_or", "Option", "rt", "types", "Bool", "libc", "os", "errno", "rattle_errno", "let", "extern", "no_mangle", "#[tactic", "#![tactic",
     # programs that scripts build, the fields of a must-fail edit, and an option
     "test", "oracle", "file:", "old:", "new:", "--help",
     # MartyPC's names for what document 01 leaves out, or gives another shape
@@ -161,6 +161,8 @@ def check_names(page, line, text):
     for quoted in words(text):
         for at, word in enumerate(quoted.split()):
             word = word.strip(",;()'\"").split("(")[0] or word
+            if not re.search(r"\w", word):
+                continue
             if at > 0 and (word.startswith("-") or word.isupper() or "/" not in word):
                 continue
             if not known(word) and not known(word.lstrip("&")):
