@@ -85,6 +85,7 @@ fn accepted(pixels: [u8; 8]) -> ShownPixels
 
 // The standard modes from the picture; the other two by the plane read, at the offset as it stands. Each mode has an answer of its own: where three kinds of pixels met in one array, a copy of the
 // picture's eight was eight loads.
+#[tactic(auto, using(crate::proofs::Bounds::picture_fits, crate::proofs::Bounds::planes_fit))]
 pub fn shown(
     mode: ShiftMode,
     p0: &[u8],

@@ -138,7 +138,8 @@ pub fn write_planes(
     let target = target_of(registers, seq, at, a0, address);
     let planes = target.planes;
     let place = target.place;
-    if planes == 0 {
+    let none = planes == 0;
+    if none {
         return unchanged();
     }
     let mode = fields::gc::write_mode(registers);

@@ -61,14 +61,17 @@ fn mapped(miscellaneous: u8, address: usize, page: bool) -> usize
     ensures { result ≡ leads_to (map_of miscellaneous) (chain_of miscellaneous) address page }
 {
     let chain = miscellaneous & 2;
-    if miscellaneous & 8 == 0 {
-        if miscellaneous & 4 == 0 {
+    let at_a0000 = miscellaneous & 8 == 0;
+    if at_a0000 {
+        let whole = miscellaneous & 4 == 0;
+        if whole {
             return mapped_128k(chain, address);
         }
         return mapped_64k(chain, address, page);
     }
     // the map B0000 has no window
-    if miscellaneous & 4 == 0 {
+    let no_window = miscellaneous & 4 == 0;
+    if no_window {
         return OUTSIDE;
     }
     mapped_b8000(address)

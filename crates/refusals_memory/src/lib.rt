@@ -32,10 +32,12 @@ pub fn judge_plane(shape: Shape, plane: usize, offset: PlaneOffset) -> DoneAnswe
     if !shaped(shape) {
         return DoneAnswer::Refused(Refusal::Memory);
     }
-    if plane > 3 {
+    let no_plane = plane > 3;
+    let no_offset = at >= n;
+    if no_plane {
         return DoneAnswer::Refused(Refusal::Plane);
     }
-    if at >= n {
+    if no_offset {
         return DoneAnswer::Refused(Refusal::Offset);
     }
     DoneAnswer::Done

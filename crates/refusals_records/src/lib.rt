@@ -18,10 +18,12 @@ pub fn fits_gc(registers: GraphicsRegisters) -> bool
         | registers.enable_set_reset
         | registers.color_compare
         | registers.color_dont_care;
-    if four_bits > 15 {
+    let over = four_bits > 15;
+    if over {
         return false;
     }
-    if registers.read_map_select > 3 {
+    let over_map_select = registers.read_map_select > 3;
+    if over_map_select {
         return false;
     }
     true
@@ -31,16 +33,20 @@ pub fn fits_gc(registers: GraphicsRegisters) -> bool
 pub fn fits_seq(seq: Sequencer) -> bool
     ensures { result ≡ fits_seq seq }
 {
-    if seq.reset > 3 {
+    let over_reset = seq.reset > 3;
+    if over_reset {
         return false;
     }
-    if seq.map_mask > 15 {
+    let over_map_mask = seq.map_mask > 15;
+    if over_map_mask {
         return false;
     }
-    if seq.clocking_mode > 63 {
+    let over_clocking_mode = seq.clocking_mode > 63;
+    if over_clocking_mode {
         return false;
     }
-    if seq.character_map_select > 63 {
+    let over_character_map = seq.character_map_select > 63;
+    if over_character_map {
         return false;
     }
     seq.memory_mode <= 63

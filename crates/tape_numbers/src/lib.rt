@@ -34,7 +34,8 @@ pub fn read_number(tape: &[u8], from: usize, limit: u64) -> Number
                     taken: at - from + 1,
                 };
             }
-            if at > from {
+            let padded = at > from;
+            if padded {
                 return Number::Damaged;
             }
             return Number::Value {

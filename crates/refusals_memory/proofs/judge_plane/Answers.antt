@@ -9,19 +9,19 @@ unfolding plane_number
 returns-then-not-shaped c =
     simp (sym c.shaped.ensures ∙ c.if-not-shaped.true)
 
-pub returns-then-plane-gt3 : goal.returns-then-plane-gt3
+pub returns-then-no_plane : goal.returns-then-no_plane
 unfolding plane_number
-returns-then-plane-gt3 c =
-    simp (sym c.shaped.ensures ∙ c.if-not-shaped.false, lt-leb _ 3 c.if-plane-gt3.true)
+returns-then-no_plane c =
+    simp (sym c.shaped.ensures ∙ c.if-not-shaped.false, lt-leb _ 3 c.if-no_plane.true)
 
-pub returns-then-at-n : goal.returns-then-at-n
+pub returns-then-no_offset : goal.returns-then-no_offset
 unfolding plane_number
-returns-then-at-n c =
+returns-then-no_offset c =
     simp (
       sym c.shaped.ensures ∙ c.if-not-shaped.false,
-      le-leb _ 3 c.if-plane-gt3.false,
+      le-leb _ 3 c.if-no_plane.false,
       le-ltb c.args.offset.0 c.args.shape.p0
-          c.if-at-n.true,
+          c.if-no_offset.true,
     )
 
 pub returns : goal.returns
@@ -29,7 +29,7 @@ unfolding plane_number
 returns c =
     simp (
       sym c.shaped.ensures ∙ c.if-not-shaped.false,
-      le-leb _ 3 c.if-plane-gt3.false,
+      le-leb _ 3 c.if-no_plane.false,
       lt-ltb c.args.offset.0 c.args.shape.p0
-          c.if-at-n.false,
+          c.if-no_offset.false,
     )

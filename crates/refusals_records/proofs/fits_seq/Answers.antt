@@ -9,26 +9,26 @@ use Rattle.refusals_records.proofs.fits_seq.Goals as goal
 fifth : (e : Bool) {a b c d : Bool} → a ≡ true → b ≡ true → c ≡ true → d ≡ true → e ≡ (a && (b && (c && (d && e))))
 fifth e p q r s = simp (p, q, r, s)
 
-pub returns-then-seq-gt3 : goal.returns-then-seq-gt3
+pub returns-then-over_reset : goal.returns-then-over_reset
 unfolding fits_seq
-returns-then-seq-gt3 c = simp (lt-leb _ 3 c.if-seq-gt3.true)
+returns-then-over_reset c = simp (lt-leb _ 3 c.if-over_reset.true)
 
-pub returns-then-seq-gt15 : goal.returns-then-seq-gt15
+pub returns-then-over_map_mask : goal.returns-then-over_map_mask
 unfolding fits_seq
-returns-then-seq-gt15 c =
-    simp (le-leb _ 3 c.if-seq-gt3.false, lt-leb _ 15 c.if-seq-gt15.true)
+returns-then-over_map_mask c =
+    simp (le-leb _ 3 c.if-over_reset.false, lt-leb _ 15 c.if-over_map_mask.true)
 
-pub returns-then-seq-gt63 : goal.returns-then-seq-gt63
+pub returns-then-over_clocking_mode : goal.returns-then-over_clocking_mode
 unfolding fits_seq
-returns-then-seq-gt63 c =
-    simp (le-leb _ 3 c.if-seq-gt3.false, le-leb _ 15 c.if-seq-gt15.false, lt-leb _ 63 c.if-seq-gt63.true)
+returns-then-over_clocking_mode c =
+    simp (le-leb _ 3 c.if-over_reset.false, le-leb _ 15 c.if-over_map_mask.false, lt-leb _ 63 c.if-over_clocking_mode.true)
 
-pub returns-then-seq-gt63-2 : goal.returns-then-seq-gt63-2
+pub returns-then-over_character_map : goal.returns-then-over_character_map
 unfolding fits_seq
-returns-then-seq-gt63-2 c =
-    simp (le-leb _ 3 c.if-seq-gt3.false, le-leb _ 15 c.if-seq-gt15.false, le-leb _ 63 c.if-seq-gt63.false, lt-leb _ 63 c.if-seq-gt63-2.true)
+returns-then-over_character_map c =
+    simp (le-leb _ 3 c.if-over_reset.false, le-leb _ 15 c.if-over_map_mask.false, le-leb _ 63 c.if-over_clocking_mode.false, lt-leb _ 63 c.if-over_character_map.true)
 
 pub returns : goal.returns
 unfolding fits_seq
 returns c =
-    fifth _ (le-leb _ 3 c.if-seq-gt3.false) (le-leb _ 15 c.if-seq-gt15.false) (le-leb _ 63 c.if-seq-gt63.false) (le-leb _ 63 c.if-seq-gt63-2.false)
+    fifth _ (le-leb _ 3 c.if-over_reset.false) (le-leb _ 15 c.if-over_map_mask.false) (le-leb _ 63 c.if-over_clocking_mode.false) (le-leb _ 63 c.if-over_character_map.false)

@@ -31,9 +31,9 @@ pub returns-then-group-gt0 : goal.returns-then-group-gt0
 returns-then-group-gt0 c =
     whole _ _ _ _ _ _ _ _ c.loop-at.invariant c.wide-group.ensures c.loop-at-test.true c.if-group-left.false c.if-group-lt128.true c.if-group-gt0.true
 
-pub returns-then-at-from : goal.returns-then-at-from
-returns-then-at-from c =
-    padded _ _ _ _ _ _ _ _ c.loop-at.invariant c.wide-group.ensures c.loop-at-test.true c.if-group-left.false c.if-group-gt0.false c.if-at-from.true
+pub returns-then-padded : goal.returns-then-padded
+returns-then-padded c =
+    padded _ _ _ _ _ _ _ _ c.loop-at.invariant c.wide-group.ensures c.loop-at-test.true c.if-group-left.false c.if-group-gt0.false c.if-padded.true
 
 pub overflow_sub-result-then-group-lt128 : goal.overflow_sub-result-then-group-lt128
 overflow_sub-result-then-group-lt128 c =
@@ -45,7 +45,7 @@ overflow_add-result-then-group-lt128 c =
 
 pub returns-then-group-lt128 : goal.returns-then-group-lt128
 returns-then-group-lt128 c =
-    nought _ _ _ _ _ _ _ _ c.loop-at.invariant c.wide-group.ensures c.loop-at-test.true c.if-group-left.false c.if-group-gt0.false c.if-at-from.false
+    nought _ _ _ _ _ _ _ _ c.loop-at.invariant c.wide-group.ensures c.loop-at-test.true c.if-group-left.false c.if-group-gt0.false c.if-padded.false
 
 pub overflow_mul-value : goal.overflow_mul-value
 overflow_mul-value c =

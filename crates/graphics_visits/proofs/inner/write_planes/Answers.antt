@@ -12,11 +12,11 @@ use Rattle.machine.proofs.Changes.{none-changed}
 use Rattle.graphics_visits.proofs.Planes.{write-none, write-some, write-numbers}
 use Rattle.graphics_visits.proofs.inner.write_planes.Goals as goal
 
-pub returns-then-planes-eq0 : goal.returns-then-planes-eq0
-returns-then-planes-eq0 c =
+pub returns-then-none : goal.returns-then-none
+returns-then-none c =
     let a = c.args in
     let r = a.gc.registers in (
-      write-none (write_mode r) r a.seq a.address a.at a.byte a.gc.latches _ _ c.target_of-target.ensures.0 c.if-planes-eq0.true,
+      write-none (write_mode r) r a.seq a.address a.at a.byte a.gc.latches _ _ c.target_of-target.ensures.0 c.if-none.true,
       ap changed_value c.unchanged.ensures ∙ none-changed _ _,
     )
 
@@ -39,7 +39,7 @@ returns c =
     let r = a.gc.registers in
     -- the bytes laid and the pixels remade are the mode's deed
     let some_stored = write-some c.write_mode-mode.result r a.seq a.address a.at a.byte a.gc.latches m _ _ _
-    c.target_of-target.ensures.0 c.if-planes-eq0.false c.plane_bytes-bytes.ensures c.target_of-target.ensures.1
+    c.target_of-target.ensures.0 c.if-none.false c.plane_bytes-bytes.ensures c.target_of-target.ensures.1
     ∙ ap (λ (w : WriteMode). memory_after (write_deed w r a.seq a.address a.at a.byte) a.gc.latches m) c.write_mode-mode.ensures in (
       c.remake.ensures ∙ ap (remade c.target_of-target.result.place) c.visit-changed.ensures.0 ∙ some_stored,
       write-numbers _ _ _ _ _ _ c.visit-changed.ensures.1 c.remake.ensures c.target_of-target.ensures.1,
