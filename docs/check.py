@@ -29,7 +29,7 @@ EXCEPTIONS = {
     # words of the languages, and of the kit
     "requires", "ensures", "bool", "usize", "&mut", "get_or", "Option", "rt", "types", "Bool", "libc", "os", "errno", "rattle_errno", "let", "extern", "no_mangle", "#[tactic", "#![tactic",
     # programs that scripts build, the fields of a must-fail edit, and an option
-    "test", "oracle", "file:", "old:", "new:", "--help",
+    "test", "oracle", "file:", "old:", "new:", "--help", "c", "Result", "Ok", "Err", "None", "?", "as", "println",
     # MartyPC's names for what document 01 leaves out, or gives another shape
     "get_state", "get_stats", "parallel", "foreach_plane", "serialize_buf", "linear_cga_buf", "pixel_buf", "pipeline_buf", "debug_ctr", "c4_flipflop", "plane_len",
     "plane_slice", "update_character_maps", "font_select_enabled", "get_glyph_span", "test_glyph_span", "get_glyph_address", "graphics_", "micellaneous",

@@ -291,6 +291,12 @@ def fits(given, name, kind):
     return word == name or (kind == "bool" and word in ("true", "false")) or (kind in ("usize", "u8", "PlaneOffset") and re.fullmatch(r"0x[0-9A-F]+|\d+", word) is not None)
 
 
+def fields_of(types, name):
+    """The fields of a struct, in its order; none where there is no such struct."""
+    body = re.search(rf"pub struct {name}(?:<[^>]*>)? \{{([^}}]*)\}}", types)
+    return re.findall(r"pub (\w+):", body[1]) if body else []
+
+
 def rattle(piece):
     crate, function, given = re.search(r"= (\w+)::(\w+)\((.*)\);", piece.text).groups()
     declared = re.search(rf"pub fn {function}\(([^)]*)\) -> (\w+)", source(crate))
@@ -302,10 +308,12 @@ def rattle(piece):
     if len(parameters) != len(arguments) or not all(fits(a, *p) for a, p in zip(arguments, parameters)):
         piece.fails(f"{function} takes ({', '.join(': '.join(p) for p in parameters)})")
     types = source("machine_types")
-    fields = re.search(rf"pub struct {declared[2]} \{{([^}}]*)\}}", types)
     for field in re.findall(r"\br\.(\w+)", piece.text):
-        if not fields or f"pub {field}:" not in fields[1]:
+        if field not in fields_of(types, declared[2]):
             piece.fails(f"{declared[2]} has no field {field}")
+    for name, made in re.findall(r"= ([A-Z]\w+) \{ (.*) \};", piece.text):
+        if [part.split(": ")[0] for part in made.split(", ")] != fields_of(types, name):
+            piece.fails(f"{name} has the fields {', '.join(fields_of(types, name))}")
     for name, variant in re.findall(r"\b([A-Z]\w+)::(\w+)", piece.text):
         body = re.search(rf"pub enum {name} \{{([^}}]*)\}}", types)
         if not body or not re.search(rf"\b{variant}\b", body[1]):
@@ -480,7 +488,7 @@ PIECES = [
     ("README.md", "./run-tape", "shell", "commands"),
     ("README.md", "write_u8  0F", changed_bytes, "held to the bits that differ, and to what `replay` answers"),
     ("README.md", "scripts/build replay", "shell", "commands"),
-    ("README.md", "let r = graphics_controller", rattle, "held to the function's name, parameters and answer in crates/graphics_controller/src and crates/machine_types/src"),
+    ("README.md", "let mut memory = Lent", rattle, "held to the function's name, parameters and answer, and to the fields of Lent, in crates/graphics_controller/src and crates/machine_types/src"),
     ("README.md", "scripts/build host", "shell", "commands"),
     ("README.md", "gc = iddesmar_gc_new", c_piece, "compiled in a frame, linked and run; its numbers and its pixels are those of its comments"),
     ("README.md", "oracle/check", "shell", "commands"),

@@ -3,8 +3,9 @@ use Prim.Native.Nat.{ℕ}
 use mathlib.Core.Path.{◌≡◌, refl}
 use mathlib.Core.List.{List, [], ◌∷◌}
 use Rattle.machine_types.specs.declared.answer.Refusal.TheVariants.{Memory, Window, Offset, Plane, State}
-use Rattle.machine_types.specs.declared.answer.StoreAnswer.{StoreAnswer}
-use Rattle.machine_types.specs.declared.answer.StoreAnswer.TheVariants.{Done, Refused}
+use Rattle.machine_types.specs.declared.answer.Changed.{Changed}
+use Rattle.machine_types.specs.declared.answer.Refusal.{Refusal}
+use Rattle.std.specs.Prelude.{Result, Ok, Err}
 use Rattle.machine.specs.Answers.{one, two, pixel, part, said, store_said}
 use Rattle.answers.specs.declared.wide.Stored.{Stored}
 use Rattle.answers.specs.Wide.{stored_of}
@@ -13,19 +14,19 @@ use Rattle.answers.specs.Wide.{stored_of}
 told : Stored → List ℕ
 told r = r.number ∷ r.changed
 
-stores : StoreAnswer → List ℕ
+stores : Result Changed Refusal → List ℕ
 unfolding told
 stores a = told (stored_of (store_said a))
 
 pub stored_rows : List (List ℕ)
 unfolding told stores
 stored_rows =
-    stores (Done (record { p0 = 1; p1 = 2; p2 = 3; p3 = 8 }))
-    ∷ stores (Refused Memory)
-    ∷ stores (Refused Window)
-    ∷ stores (Refused Offset)
-    ∷ stores (Refused Plane)
-    ∷ stores (Refused State)
+    stores (Ok (record { p0 = 1; p1 = 2; p2 = 3; p3 = 8 }))
+    ∷ stores (Err Memory)
+    ∷ stores (Err Window)
+    ∷ stores (Err Offset)
+    ∷ stores (Err Plane)
+    ∷ stores (Err State)
     ∷ told (stored_of (said 0 (one 7)))
     ∷ told (stored_of (said 0 (two 7 1)))
     ∷ told (stored_of (said 0 (pixel 7)))

@@ -1,8 +1,8 @@
 -- What the answers of wider values say, and the answers of a show and of a store by value.
-use Rattle.std.specs.Prelude.{ℕ, ◌≡◌, List, [], ◌∷◌, eqb, length}
+use Rattle.std.specs.Prelude.{ℕ, ◌≡◌, List, [], ◌∷◌, eqb, length, Result, Ok, Err}
 use Rattle.bits.specs.Bit.{pick}
-use Rattle.machine_types.specs.declared.answer.ShownPixels.{ShownPixels}
-use Rattle.machine.specs.Answers.{Value, one, two, pixel, part, changes, shown, no_pixels, pixels_of, Said, said, Outcome, done_said}
+use Rattle.machine_types.specs.declared.answer.Refusal.{Refusal}
+use Rattle.machine.specs.Answers.{Value, one, two, pixel, part, changes, shown, no_pixels, pixels_of, Said, said, Outcome, refusal_number}
 use Rattle.answers.specs.declared.wide.Clock.{Clock}
 use Rattle.answers.specs.declared.wide.Mapped.{Mapped}
 use Rattle.answers.specs.declared.wide.Shown.{Shown}
@@ -29,8 +29,9 @@ abbrev pub pixels_shown : Said → Shown
 pixels_shown s = record { number = s.number; pixels = pixels_of s.value }
 
 -- .. from what the call hands back
-abbrev pub in_numbers : ShownPixels → Shown
-in_numbers x = record { number = (done_said x.answer).number; pixels = x.pixels }
+abbrev pub in_numbers : Result (List ℕ) Refusal → Shown
+in_numbers (Ok l) = record { number = 0; pixels = l }
+in_numbers (Err r) = record { number = refusal_number r; pixels = no_pixels }
 
 -- the four numbers of a store, plane 0 first; no other value has any
 abbrev pub four_of : Value → List ℕ

@@ -1,9 +1,9 @@
 // Answers whose value is wider than a byte: a clock, where an address leads, eight pixels, how much a store changed.
 ghost use Rattle.std.specs.Prelude.{◌≡◌, []};
-ghost use Rattle.machine.specs.Answers.{changes, said, clock_said, mapped_said, part_said, store_said};
+ghost use Rattle.machine.specs.Answers.{changes, said, clock_said, mapped_said, older_said, part_said, store_said};
 ghost use Rattle.answers.specs.Wide.{clock_answer_said, mapped_answer_said, shown_of, in_numbers, stored_of};
 
-use machine_types::{ClockAnswer, DoneAnswer, MappedAnswer, Refusal, ShownPixels, StoreAnswer};
+use machine_types::{Changed, Part, PlaneOffset, Refusal};
 
 // The character clock.
 #[repr(C)]
@@ -38,98 +38,95 @@ pub struct Stored {
     pub number: u8,
 }
 
-pub fn of_clock(answer: ClockAnswer) -> Clock
-    ensures { clock_answer_said result ≡ clock_said answer }
-{
-    match answer {
-        ClockAnswer::Done(clock) => Clock { clock, number: 0 },
-        ClockAnswer::Refused(x) => Clock {
-            clock: 0,
-            number: fields::refusal_number(x),
-        },
+impl From<Result<u32, Refusal>> for Clock {
+    ghost from_gives = { λ given a. clock_answer_said a ≡ clock_said given };
+
+    fn from(given: Result<u32, Refusal>) -> Clock {
+        match given {
+            Ok(clock) => Clock { clock, number: 0 },
+            Err(refusal) => Clock {
+                clock: 0,
+                number: refusal as u8,
+            },
+        }
     }
 }
 
-pub fn of_mapped(answer: MappedAnswer) -> Mapped
-    ensures { mapped_answer_said result ≡ mapped_said answer }
-{
-    match answer {
-        MappedAnswer::Done(offset, a0) => {
-            let odd = a0 as u8;
-            Mapped {
+impl From<Result<(PlaneOffset, bool), Refusal>> for Mapped {
+    ghost from_gives = { λ given a. mapped_answer_said a ≡ mapped_said given };
+
+    fn from(given: Result<(PlaneOffset, bool), Refusal>) -> Mapped {
+        match given {
+            Ok((offset, a0)) => Mapped {
                 offset: offset.0,
                 number: 0,
-                a0: odd,
+                a0: a0 as u8,
+            },
+            Err(refusal) => Mapped {
+                offset: 0,
+                number: refusal as u8,
+                a0: 0,
+            },
+        }
+    }
+}
+
+impl From<Result<[u8; 8], Refusal>> for Shown {
+    ghost from_gives = { λ given a. a ≡ in_numbers given };
+
+    fn from(given: Result<[u8; 8], Refusal>) -> Shown {
+        match given {
+            Ok(pixels) => Shown { pixels, number: 0 },
+            Err(refusal) => {
+                let number = refusal as u8;
+                Shown {
+                    pixels: [0u8; 8],
+                    number,
+                }
             }
         }
-        MappedAnswer::Refused(x) => Mapped {
-            offset: 0,
-            number: fields::refusal_number(x),
-            a0: 0,
-        },
+    }
+}
+
+// An older show's eight pixels, where there are eight.
+impl From<Part<'_>> for Shown {
+    ghost from_gives = { λ given a. a ≡ shown_of (older_said given) };
+
+    fn from(given: Part<'_>) -> Shown {
+        let number = match given.answer {
+            Ok(()) => 0,
+            Err(refusal) => refusal as u8,
+        };
+        let pixels = <[u8; 8]>::try_from(given.pixels).unwrap_or([0u8; 8]);
+        Shown { pixels, number }
+    }
+}
+
+impl From<Result<Changed, Refusal>> for Stored {
+    ghost from_gives = { λ given a. a ≡ stored_of (store_said given) };
+
+    fn from(given: Result<Changed, Refusal>) -> Stored {
+        match given {
+            Ok(x) => Stored {
+                changed: [x.p0, x.p1, x.p2, x.p3],
+                number: 0,
+            },
+            Err(refusal) => Stored {
+                changed: [0u8; 4],
+                number: refusal as u8,
+            },
+        }
     }
 }
 
 pub fn unknown_shown() -> Shown
     ensures { result ≡ shown_of (part_said 6 []) }
 {
-    Shown {
-        number: fields::refusal_number(Refusal::State),
-        pixels: [0u8; 8],
-    }
-}
-
-// An older show's number, and its eight pixels where there are eight.
-pub fn of_part(number: u8, part: &[u8]) -> Shown
-    ensures { result ≡ shown_of (part_said number part.now) }
-{
-    if part.len() != 8 {
-        return Shown {
-            number,
-            pixels: [0u8; 8],
-        };
-    }
-    let pixels = [
-        part[0], part[1], part[2], part[3], part[4], part[5], part[6], part[7],
-    ];
-    Shown { number, pixels }
-}
-
-// A show's number and its eight pixels, made in an arm for each answer: of one number for both the compiler works it out of the enum once more.
-pub fn of_shown(given: ShownPixels) -> Shown
-    ensures { result ≡ in_numbers given }
-{
-    let answer = given.answer;
-    let pixels = given.pixels;
-    match answer {
-        DoneAnswer::Done => Shown { pixels, number: 0 },
-        DoneAnswer::Refused(x) => {
-            let number = fields::refusal_number(x);
-            Shown { pixels, number }
-        }
-    }
+    Shown::from(Err(Refusal::State))
 }
 
 pub fn unknown_stored() -> Stored
     ensures { result ≡ stored_of (said 6 (changes 0 0 0 0)) }
 {
-    Stored {
-        changed: [0u8; 4],
-        number: fields::refusal_number(Refusal::State),
-    }
-}
-
-pub fn of_store(answer: StoreAnswer) -> Stored
-    ensures { result ≡ stored_of (store_said answer) }
-{
-    match answer {
-        StoreAnswer::Done(x) => Stored {
-            changed: [x.p0, x.p1, x.p2, x.p3],
-            number: 0,
-        },
-        StoreAnswer::Refused(x) => Stored {
-            changed: [0u8; 4],
-            number: fields::refusal_number(x),
-        },
-    }
+    Stored::from(Err(Refusal::State))
 }

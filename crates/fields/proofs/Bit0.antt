@@ -14,11 +14,11 @@ bit0-replaced x b h l =
     ap (λ (y : ℕ). bit_or y b) e ∙ or_shifted (x / 2) 1 b (omega arith)
 
 -- `x & 1`
-pub bit0-is : (x : ℕ) → bit_and x 1 ≡ bit 0 x
-bit0-is x = and_mask x 1 ∙ sym (bit-zero x)
+pub bit0_is : (x : ℕ) → bit_and x 1 ≡ bit 0 x
+bit0_is x = and_mask x 1 ∙ sym (bit-zero x)
 
 pub bit0-of : (x : ℕ) → bit_and x 1 ≡ bit_of (a0 x)
-bit0-of x = bit0-is x ∙ go (bit 0 x) (bit-lt 0 x)
+bit0-of x = bit0_is x ∙ go (bit 0 x) (bit-lt 0 x)
   where
     go : (b : ℕ) → b < 2 → b ≡ bit_of (is_one b)
     go zero l = refl

@@ -117,15 +117,5 @@ pub fn selected(number: u8, earlier: GraphicsRegister) -> GraphicsRegister
 pub fn register_number(register: GraphicsRegister) -> u8
     ensures { result ≡ register_number register }
 {
-    match register {
-        GraphicsRegister::SetReset => 0,
-        GraphicsRegister::EnableSetReset => 1,
-        GraphicsRegister::ColorCompare => 2,
-        GraphicsRegister::DataRotate => 3,
-        GraphicsRegister::ReadMapSelect => 4,
-        GraphicsRegister::Mode => 5,
-        GraphicsRegister::Miscellaneous => 6,
-        GraphicsRegister::ColorDontCare => 7,
-        GraphicsRegister::BitMask => 8,
-    }
+    register as u8
 }

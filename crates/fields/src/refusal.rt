@@ -8,16 +8,5 @@ use machine_types::Refusal;
 pub fn refusal_number(refusal: Refusal) -> u8
     ensures { result ≡ refusal_number refusal }
 {
-    match refusal {
-        Refusal::Memory => 1,
-        Refusal::Window => 2,
-        Refusal::Offset => 3,
-        Refusal::Plane => 4,
-        Refusal::Place => 5,
-        Refusal::State => 6,
-        Refusal::Damaged => 7,
-        Refusal::Range => 8,
-        Refusal::Shift => 9,
-        Refusal::Room => 10,
-    }
+    refusal as u8
 }

@@ -40,12 +40,5 @@ pub fn selected(byte: u8) -> SequencerRegister
 pub fn register_number(register: SequencerRegister) -> u8
     ensures { result ≡ seq_number register }
 {
-    match register {
-        SequencerRegister::Reset => 0,
-        SequencerRegister::ClockingMode => 1,
-        SequencerRegister::MapMask => 2,
-        SequencerRegister::CharacterMapSelect => 3,
-        SequencerRegister::MemoryMode => 4,
-        SequencerRegister::Invalid => 5,
-    }
+    register as u8
 }

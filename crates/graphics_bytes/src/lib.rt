@@ -12,12 +12,13 @@ use bits::inner::spread;
 use logic::logic_steps;
 use machine_types::{GraphicsRegisters, WriteMode};
 
-// Eight bits turned right; a turn by 0 shifts by 0 twice.
+// Eight bits turned right.
+#[tactic(auto, using(crate::proofs::Bytes::turned))]
 fn rotate_right_u8(byte: u8, count: u8) -> u8
     requires { count < 8 }
     ensures { result ≡ byte_of (rotated count byte) }
 {
-    (byte >> count) | (byte << ((8 - count) % 8))
+    byte.rotate_right(count as u32)
 }
 
 // The Set/Reset step: a plane whose Enable bit is set takes its Set/Reset bit, spread, in place of the data.
@@ -32,28 +33,31 @@ fn set_reset(registers: GraphicsRegisters, data: u8, plane: u8) -> u8
 }
 
 // The Set/Reset step of each plane. Where Enable is 0, as at the start, every plane has the data, and no plane's bit is looked at.
+#[tactic(auto, unfolding(bits::specs::Bit::bit))]
 fn set_resets(registers: GraphicsRegisters, data: u8) -> [u8; 4]
     ensures { result ≡ four (λ p. pick (is_one (bit p registers.enable_set_reset)) (byte_of (λ i. bit p registers.set_reset)) «data») }
 {
     if registers.enable_set_reset == 0 {
         return [data, data, data, data];
     }
-    let d0 = set_reset(registers, data, 0);
-    let d1 = set_reset(registers, data, 1);
-    let d2 = set_reset(registers, data, 2);
-    let d3 = set_reset(registers, data, 3);
-    [d0, d1, d2, d3]
+    [
+        set_reset(registers, data, 0),
+        set_reset(registers, data, 1),
+        set_reset(registers, data, 2),
+        set_reset(registers, data, 3),
+    ]
 }
 
 // Each plane's bit of a byte, spread.
 fn spreads(byte: u8) -> [u8; 4]
     ensures { result ≡ four (λ p. byte_of (λ i. bit p byte)) }
 {
-    let d0 = spread(byte, 0);
-    let d1 = spread(byte, 1);
-    let d2 = spread(byte, 2);
-    let d3 = spread(byte, 3);
-    [d0, d1, d2, d3]
+    [
+        spread(byte, 0),
+        spread(byte, 1),
+        spread(byte, 2),
+        spread(byte, 3),
+    ]
 }
 
 // The four planes' bytes, by each mode's mask and data. Mode 1 has no bit in its mask, so that it stores latches; mode 3 does not look at Enable.

@@ -23,9 +23,10 @@ fn logic_step(function: LogicFunction, mask: u8, data: u8, latch: u8) -> u8
 pub fn logic_steps(function: LogicFunction, mask: u8, data: [u8; 4], latches: [u8; 4]) -> [u8; 4]
     ensures { result ≡ four (λ p. byte_of (λ i. masked function (bit i mask) (bit i (at «data» p)) (bit i (at latches p)))) }
 {
-    let b0 = logic_step(function, mask, data[0], latches[0]);
-    let b1 = logic_step(function, mask, data[1], latches[1]);
-    let b2 = logic_step(function, mask, data[2], latches[2]);
-    let b3 = logic_step(function, mask, data[3], latches[3]);
-    [b0, b1, b2, b3]
+    [
+        logic_step(function, mask, data[0], latches[0]),
+        logic_step(function, mask, data[1], latches[1]),
+        logic_step(function, mask, data[2], latches[2]),
+        logic_step(function, mask, data[3], latches[3]),
+    ]
 }

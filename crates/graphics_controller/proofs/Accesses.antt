@@ -4,13 +4,11 @@ use native.Mathlib.Omega.{arith}
 use mathlib.Core.Path.{◌≡◌, refl, sym, ap, ◌∙◌}
 use mathlib.Core.Bool.{Bool, true, false}
 use mathlib.Core.List.{List, []}
-use lib.Dec.{ltb}
-use lib.ListN.{take, drop}
+use Rattle.std.specs.Prelude.{Result, Ok, Err}
+use lib.ListN.{length, take, drop}
 use borrow.Author.Tests.{ltb-true}
 use Rattle.bits.specs.Bit.{bit_of, pick}
 use Rattle.machine_types.specs.declared.answer.Refusal.{Refusal}
-use Rattle.machine_types.specs.declared.answer.MappedAnswer.{MappedAnswer}
-use Rattle.machine_types.specs.declared.answer.MappedAnswer.TheVariants.{Done as MappedDone, Refused as MappedRefused}
 use Rattle.machine_types.specs.declared.place.PlaneOffset.{PlaneOffset}
 use Rattle.machine_types.specs.declared.gc.WriteMode.{WriteMode}
 use Rattle.machine_types.specs.declared.gc.GraphicsRegisters.{GraphicsRegisters}
@@ -19,30 +17,22 @@ use Rattle.machine_types.specs.declared.gc.ReadMode.{ReadMode}
 use Rattle.machine_types.specs.declared.gc.ReadMode.TheVariants.{ReadSelectedPlane, ReadComparedPlanes}
 use Rattle.machine_types.specs.declared.seq.Sequencer.{Sequencer}
 use Rattle.machine_types.specs.declared.shape.Shape.{Shape}
-use Rattle.machine.specs.Memory.{Memory, shape, sound}
-use Rattle.machine.specs.Answers.{refusal_number, Value, one, two, part, changes, changes_of, shown, no_pixels, blank, Said, said, Outcome, outcome, answered, mapped_said}
-use Rattle.machine.specs.Graphics.{fits_gc, memory_map, chained, odd_even, is_odd_even, read_mode, write_mode, shift_mode, gc_of}
+use Rattle.machine.specs.Memory.{Memory, shape, sound, Shaped}
+use Rattle.machine.specs.Answers.{refusal_number, Value, one, two, part, changes, changes_of, shown, no_pixels, blank, Said, said, said_by, done_said, Outcome, outcome, answered, mapped_said}
+use Rattle.machine.specs.Graphics.{fits_gc, odd_even, is_odd_even, read_mode, write_mode, shift_mode, gc_of}
 use Rattle.machine.specs.Sequencer.{fits_seq, chain_four, stored_at, answers_from}
-use Rattle.machine.specs.Address.{in_window, a0, offset}
+use Rattle.machine.specs.Address.{a0, offset}
 use Rattle.machine.specs.DataPath.{map_selected, selected_plane, peeked_plane}
 use Rattle.machine.specs.Deeds.{byte, latch, loaded, changed_at, shown_in, latches_after, memory_after, value_of}
-use Rattle.machine.specs.Calls.{refuse, fits_both, access_number, shows, show_number, last_shown, pixels_number, read_reply}
+use Rattle.machine.specs.Calls.{fits_both, access_number, shows, show_number, last_shown, pixels_number, read_reply}
 use Rattle.machine.specs.Calls.{write_deed, cpu_plan, cpu_read, cpu_peek, cpu_write, serialize, show_pixels}
 use Rattle.machine.specs.Calls.{CpuPlan, read_counter, write_counter, refused_counter, no_counter, refusal_counter, counted}
 use Rattle.machine.specs.Step.{device, lifted, cpu_refused, cpu_perform, cpu_step}
-use Rattle.machine.proofs.Laws.{both, refuse-0, sound-facts, AtOffset, answered-refused, none-raised}
-use Rattle.refusals_records.proofs.Held.{map-select-fits}
-use Rattle.refusals_access.specs.Miscellaneous.{map_of, offset_of}
-use Rattle.refusals_access.proofs.Windows.{left}
+use Rattle.machine.proofs.Laws.{both, refuse-0, sound-facts, AtOffset, access-accepted, answered-refused, refusal-some, none-raised}
+use Rattle.refusals_records.proofs.Held.{map_select_fits}
 use Rattle.graphics_controller.specs.Reads.{read_byte}
 
--- ---- what an answer says of an address
-
--- an offset and a0 were answered: nothing was refused, and they are the machine's
-pub record Located (n o o' : ℕ) (a a' : Bool) : Type 0 where
-  pub accepted : 0 ≡ n
-  pub offset : o ≡ o'
-  pub bit0 : a ≡ a'
+-- ---- what the judge of an access answers
 
 bit-one : (a b : Bool) → bit_of a ≡ bit_of b → a ≡ b
 bit-one true true e = refl
@@ -50,47 +40,45 @@ bit-one true false e = absurd (omega arith)
 bit-one false true e = absurd (omega arith)
 bit-one false false e = refl
 
-module _ {S : Type 0} (s : S) (d : MappedAnswer) (n o : ℕ) (a : Bool) (e : outcome (mapped_said d) s ≡ answered n (two o (bit_of a)) s s) where
-  pub located : (p : PlaneOffset) (b : Bool) → d ≡ MappedDone p b → Located n p.0 o b a
-  located p b h = go n (sym (ap (λ (d : MappedAnswer). outcome (mapped_said d) s) h) ∙ e)
+-- an offset and a0 were answered: nothing was refused, they are the machine's, and the offset is within the planes
+pub record Located (r : GraphicsRegisters) (s : Sequencer) (m : Memory) (x : ℕ) (page : Bool) (o : ℕ) (b : Bool) : Type 0 where
+  pub accepted : 0 ≡ access_number r s (shape m) x page
+  pub offset : o ≡ offset r x page
+  pub bit0 : b ≡ a0 x
+  pub map-select : r.read_map_select ≤ 3
+  pub fits-seq : fits_seq s ≡ true
+  pub shaped : Shaped m
+  pub within : o < length m.p0
+
+-- from what the judge says of the memory's lengths, in the machine's words
+module _ (r : GraphicsRegisters) (s : Sequencer) (m : Memory) (x : ℕ) (page : Bool) {h : Shape} {d : Result (PlaneOffset × Bool) Refusal} (long : h ≡ shape m)
+    (j : outcome (mapped_said d) x ≡ answered (access_number r s h x page) (two (offset r x page) (bit_of (a0 x))) x x) where
+  told : {d' : Result (PlaneOffset × Bool) Refusal} → d ≡ d' → outcome (mapped_said d') x ≡ answered (access_number r s (shape m) x page) (two (offset r x page) (bit_of (a0 x))) x x
+  told is = rw is at (rw long at j)
+
+  pub located : (p : PlaneOffset) (b : Bool) → d ≡ Ok (p, b) → Located r s m x page p.0 b
+  unfolding access_number
+  located p b is = go _ refl (told is)
     where
-      go : (n : ℕ) → outcome (said 0 (two p.0 (bit_of b))) s ≡ answered n (two o (bit_of a)) s s → Located n p.0 o b a
-      go zero e =
-          let v : two p.0 (bit_of b) ≡ two o (bit_of a) = ap (λ (t : Outcome S). t.answer.value) e in
-          let f : p.0 ≡ o = cc in
-          let g : bit_of b ≡ bit_of a = cc in
-          record { accepted = refl; offset = f; bit0 = bit-one b a g }
-      go (suc n) e = absurd (let z : 0 ≡ suc n = ap (λ (t : Outcome S). t.answer.number) e in omega arith)
+      go : (n : ℕ) → access_number r s (shape m) x page ≡ n → outcome (said 0 (two p.0 (bit_of b))) x ≡ answered n (two (offset r x page) (bit_of (a0 x))) x x → Located r s m x page p.0 b
+      go zero z e =
+          let v : two p.0 (bit_of b) ≡ two (offset r x page) (bit_of (a0 x)) = ap (λ (t : Outcome ℕ). t.answer.value) e in
+          let f : p.0 ≡ offset r x page = cc in
+          let g : bit_of b ≡ bit_of (a0 x) = cc in
+          let at = access-accepted (shape m) r s x page z in
+          let fit = both (fits_gc r) (fits_seq s) (refuse-0 (fits_both r s) 5 _ z).0 in
+          record { accepted = sym z; offset = f; bit0 = bit-one b (a0 x) g; map-select = map_select_fits r fit.0; fits-seq = fit.1; shaped = at.shaped; within = omega (arith, f, at.offset) }
+      go (suc n) z e = absurd (let w : 0 ≡ suc n = ap (λ (t : Outcome ℕ). t.answer.number) e in omega arith)
 
   -- a refusal has its number
-  pub unlocated : (x : Refusal) → d ≡ MappedRefused x → refusal_number x ≡ n
-  unlocated x h = go n (sym (ap (λ (d : MappedAnswer). outcome (mapped_said d) s) h) ∙ e)
+  pub unlocated : (y : Refusal) → d ≡ Err y → refusal_number y ≡ access_number r s (shape m) x page
+  unlocated y is = go (access_number r s (shape m) x page) (told is)
     where
-      go : (n : ℕ) → outcome (said (refusal_number x) (two 0 0)) s ≡ answered n (two o (bit_of a)) s s → refusal_number x ≡ n
-      go zero e = ap (λ (t : Outcome S). t.answer.number) e
-      go (suc n) e = ap (λ (t : Outcome S). t.answer.number) e
+      go : (n : ℕ) → outcome (said (refusal_number y) (two 0 0)) x ≡ answered n (two (offset r x page) (bit_of (a0 x))) x x → refusal_number y ≡ n
+      go zero e = ap (λ (t : Outcome ℕ). t.answer.number) e
+      go (suc n) e = ap (λ (t : Outcome ℕ). t.answer.number) e
 
 -- ---- refusals in their turn
-
-module _ (r : GraphicsRegisters) (s : Sequencer) (h : Shape) (x : ℕ) (page : Bool) where
-  -- both records hold what they can
-  pub access-fits : 0 ≡ access_number r s h x page → (fits_gc r ≡ true) × (fits_seq s ≡ true)
-  unfolding access_number
-  access-fits e = both (fits_gc r) (fits_seq s) (refuse-0 (fits_both r s) 5 _ (sym e)).0
-
--- an address judged, in the machine's words
-abbrev pub JudgedAddress : GraphicsRegisters → Sequencer → Memory → ℕ → Bool → MappedAnswer → Type 0
-JudgedAddress r s m x page d = outcome (mapped_said d) r ≡ answered (access_number r s (shape m) x page) (two (offset r x page) (bit_of (a0 x))) r r
-
--- the answer of `judge_address`, by the tests of both records and of the memory, whose lengths are h
-pub judged : (r : GraphicsRegisters) (s : Sequencer) (m : Memory) (x : ℕ) (page : Bool) (d : MappedAnswer) (h : Shape) (f g : Bool)
-    → h ≡ shape m → f ≡ fits_both r s → g ≡ sound h → let b = r.miscellaneous in
-    outcome (mapped_said d) x ≡ answered (refuse f 6 (refuse g 1 (refuse (in_window (map_of b) x) 2 (refuse (ltb (offset_of b x page) h.p0) 3 0))))
-    (two (offset_of b x page) (bit_of (a0 x))) x x
-    → JudgedAddress r s m x page d
-unfolding access_number offset memory_map chained
-judged r s m x page d h f g eh ef eg e =
-    left (access_number r s (shape m) x page) (two (offset r x page) (bit_of (a0 x))) (mapped_said d) x r (rw (← ef, ← rw eh at eg) (rw eh at e))
 
 -- 6, 1, 9 and 5 passed
 pub show-accepted : (r : GraphicsRegisters) (s : Sequencer) (m : Memory) (o : ℕ) → 0 ≡ show_number r s (shape m) o → AtOffset (shape m) o
@@ -209,9 +197,9 @@ module _ (g : GraphicsController) (s : Sequencer) (m : Memory) (x : ℕ) (page :
   pub read_done : (o t : ℕ) (l : List ℕ) (a : Said) (g' : GraphicsController) → 0 ≡ number → o ≡ at → t ≡ stored_at s o → l ≡ loaded m t
       → outcome a g' ≡ outcome (said 0 (one (read_byte (read_mode g.registers) g.registers s x o l))) (gc_of g.registers (counted (read_counter (read_mode g.registers)) g.stats) l)
       → outcome a (device g' m) ≡ cpu_step g s m (cpu_read x page)
-  unfolding cpu_step cpu_plan latches_after memory_after
+  unfolding cpu_step cpu_plan latches_after memory_after access_number
   read_done o t l a g' e eo et el ea =
-      let f : g.registers.read_map_select ≤ 3 = map-select-fits g.registers (access-fits g.registers s (shape m) x page e).0 in
+      let f : g.registers.read_map_select ≤ 3 = map_select_fits g.registers (both (fits_gc g.registers) (fits_seq s) (refuse-0 (fits_both g.registers s) 5 _ (sym e)).0).0 in
       let v : l ≡ loaded m (stored_at s at) = el ∙ ap (loaded m) (et ∙ ap (stored_at s) eo) in
       ap (lifted (λ (g : GraphicsController). device g m)) ea
       ∙ cpu-done (cpu_plan g.registers s (shape m) (cpu_read x page)) g m _ m _ e
@@ -253,9 +241,12 @@ module _ (g : GraphicsController) (s : Sequencer) (m : Memory) (o : ℕ) where
   unfolding cpu_step cpu_plan value_of
   show-refused k h e = cpu-uncounted (cpu_plan g.registers s (shape m) (serialize o)) g m k (part []) refl h e refl
 
-  pub show-done : (l : List ℕ) → 0 ≡ show_number g.registers s (shape m) o → l ≡ take 8 (drop (8 * o) m.picture) → outcome (said 0 (part l)) (device g m) ≡ cpu_step g s m (serialize o)
+  -- an older show by what its judge answered
+  pub older-shown : (d : Result Unit Refusal) → (done_said d).number ≡ show_number g.registers s (shape m) o
+      → outcome (said_by (λ x. part (take 8 (drop (8 * o) m.picture))) (part []) d) (device g m) ≡ cpu_step g s m (serialize o)
   unfolding cpu_step cpu_plan counted latches_after memory_after value_of
-  show-done l e el = cpu-done (cpu_plan g.registers s (shape m) (serialize o)) g m g m (part l) e refl refl (ap part el)
+  older-shown (Ok x) e = cpu-done (cpu_plan g.registers s (shape m) (serialize o)) g m g m _ e refl refl refl
+  older-shown (Err y) e = show-refused (refusal_number y) (refusal-some y) e
 
   pub pixels-refused : (k : ℕ) → 0 < k → k ≡ pixels_number g.registers s (shape m) o
       → outcome (said k (shown (shift_mode g.registers) no_pixels)) (device g m) ≡ cpu_step g s m (show_pixels o)

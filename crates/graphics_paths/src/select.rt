@@ -7,6 +7,7 @@ ghost use Rattle.machine.specs.Sequencer.{answers_from};
 use machine_types::{GraphicsRegisters, OddEvenModeComplement, Sequencer};
 
 // The plane that an access answers from: under chain-four the one that the offset's low two bits name, else the one that the access names.
+#[tactic(auto, unfolding(machine::specs::Sequencer::answers_from))]
 fn answers_from(seq: Sequencer, offset: usize, plane: usize) -> usize
     ensures { result ≡ answers_from seq offset plane }
 {
@@ -29,6 +30,7 @@ fn map_selected(registers: GraphicsRegisters, address: usize) -> usize
 }
 
 // The plane of a selected-plane read, by its address and the offset that this leads to.
+#[tactic(auto, unfolding(machine::specs::DataPath::selected_plane))]
 pub fn selected_plane(
     registers: GraphicsRegisters,
     seq: Sequencer,
@@ -41,6 +43,7 @@ pub fn selected_plane(
 }
 
 // The plane of a peek: plane 0, but for chain-four.
+#[tactic(auto, unfolding(machine::specs::DataPath::peeked_plane))]
 pub fn peeked_plane(seq: Sequencer, offset: usize) -> usize
     ensures { result ≡ peeked_plane seq offset }
 {
@@ -48,6 +51,7 @@ pub fn peeked_plane(seq: Sequencer, offset: usize) -> usize
 }
 
 // The planes that a write visits, as four bits: all, or a0 and 2 + a0.
+#[tactic(auto, using(fields::proofs::Bit0::bit0_is), unfolding(bits::specs::Bit::of_bits, machine::specs::DataPath::visits))]
 pub fn visited(registers: GraphicsRegisters, address: usize) -> u8
     ensures { result ≡ of_bits 4 (λ p. bit_of (visits registers address p)) }
 {

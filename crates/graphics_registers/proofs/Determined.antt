@@ -1,10 +1,11 @@
 -- What a call's contract leaves open: nothing. Two outcomes that the contract's own reading, `Post`, permits for one input are the same answer,
 -- the same record and the same five slices. A slice lent as `&` cannot change; of a part handed back, the pixels are the outcome, and its lifetime says whose they are.
-use mathlib.Core.Path.{◌≡◌, ap₂}
+use mathlib.Core.Path.{◌≡◌, sym, ap₂, ◌∙◌}
+use Rattle.std.specs.Prelude.{Result}
 use contract.Lifetimes.{Lfts}
 use borrow.Fn.Kinds.{Dens}
-use Rattle.machine_types.specs.declared.answer.DoneAnswer.{DoneAnswer}
-use Rattle.machine_types.specs.declared.answer.GraphicsDone.{GraphicsDone}
+use Rattle.machine_types.specs.declared.answer.After.{After}
+use Rattle.machine_types.specs.declared.answer.Refusal.{Refusal}
 use Rattle.machine_types.specs.declared.gc.GraphicsController.{GraphicsController}
 use Rattle.machine.specs.Answers.{Outcome, outcome, done_said}
 use Rattle.machine.proofs.Injective.{answer-of, next_of, byte-injective, done-injective, flag-injective, map_injective, odd-even-injective, shift-injective}
@@ -23,6 +24,8 @@ use Rattle.graphics_registers.proofs.registers.shift_mode.Reads as shift-mode
 use Rattle.graphics_registers.proofs.registers.shift_mode.Kinds as shift-mode-kinds
 use Rattle.graphics_registers.proofs.registers.read_address.Reads as read-address
 use Rattle.graphics_registers.proofs.registers.read_address.Kinds as read-address-kinds
+use Rattle.graphics_registers.proofs.registers.data_of.Reads as data-of
+use Rattle.graphics_registers.proofs.registers.data_of.Kinds as data-of-kinds
 use Rattle.graphics_registers.proofs.registers.read_data.Reads as read-data
 use Rattle.graphics_registers.proofs.registers.read_data.Kinds as read-data-kinds
 use Rattle.graphics_registers.proofs.registers.write_address.Reads as write-address
@@ -31,8 +34,9 @@ use Rattle.graphics_registers.proofs.registers.write_data.Reads as write-data
 use Rattle.graphics_registers.proofs.registers.write_data.Kinds as write-data-kinds
 
 -- an answer and the record beside it
-port-of : {o : Outcome GraphicsController} (r r' : GraphicsDone) → outcome (done_said r.answer) r.gc ≡ o → outcome (done_said r'.answer) r'.gc ≡ o → r ≡ r'
-port-of r r' p q = ap₂ (λ (a : DoneAnswer) (g : GraphicsController). record { answer = a; gc = g }) (done-injective r.answer r'.answer (answer-of p q)) (next_of p q)
+port-of : {o : Outcome GraphicsController} (r r' : After GraphicsController (Result Unit Refusal)) → outcome (done_said r.answer) r.next ≡ o → outcome (done_said r'.answer) r'.next ≡ o → r ≡ r'
+port-of r r' p q =
+    ap₂ (λ (a : Result Unit Refusal) (g : GraphicsController). record { answer = a; next = g }) (done-injective r.answer r'.answer (answer-of p q)) (next_of p q)
 
 module _ (κs : Lfts 0) (a : Dens κs reset-kinds.ps) where
   pub reset-determined : OneAnswer (reset.Post κs a)
@@ -61,6 +65,10 @@ module _ (κs : Lfts 0) (a : Dens κs shift-mode-kinds.ps) where
 module _ (κs : Lfts 0) (a : Dens κs read-address-kinds.ps) where
   pub read-address-determined : OneAnswer (read-address.Post κs a)
   read-address-determined r r' e e' p q = byte-injective r r' (answer-of p q)
+
+module _ (κs : Lfts 0) (a : Dens κs data-of-kinds.ps) where
+  pub data-of-determined : OneAnswer (data-of.Post κs a)
+  data-of-determined r r' e e' p q = p ∙ sym q
 
 module _ (κs : Lfts 0) (a : Dens κs read-data-kinds.ps) where
   pub read-data-determined : OneAnswer (read-data.Post κs a)

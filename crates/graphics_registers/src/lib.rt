@@ -4,6 +4,6 @@
 mod registers;
 
 pub use registers::{
-    chain, chain4, memory_map, odd_even, read_address, read_data, reset, shift_mode, write_address,
-    write_data,
+    chain, chain4, data_of, memory_map, odd_even, read_address, read_data, reset, shift_mode,
+    write_address, write_data,
 };

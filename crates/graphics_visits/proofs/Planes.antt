@@ -1,10 +1,10 @@
 -- A write's planes: four tests as four bits, bytes laid plane by plane, and the deed of a write from them.
-use Prim.Native.Nat.{ℕ, zero, suc, ◌+◌, ◌*◌, ◌<◌, min}
+use Prim.Native.Nat.{ℕ, suc, ◌+◌, ◌*◌, ◌<◌, min}
 use native.Mathlib.Omega.{arith}
 use native.Mathlib.Numerals.{add-one}
 use mathlib.Core.Path.{◌≡◌, refl, sym, ap, ap₂, ◌∙◌}
 use mathlib.Core.Bool.{Bool, true, false, ◌&&◌, ◌||◌}
-use mathlib.Core.List.{List, [], ◌∷◌}
+use mathlib.Core.List.{List}
 use lib.Dec.{eqb, lit<}
 use lib.Bits.{bit_and, and_lt}
 use lib.ListN.{set}
@@ -17,15 +17,15 @@ use Rattle.machine_types.specs.declared.gc.OddEvenModeComplement.{OddEvenModeCom
 use Rattle.machine_types.specs.declared.gc.WriteMode.{WriteMode}
 use Rattle.machine_types.specs.declared.seq.Sequencer.{Sequencer}
 use Rattle.machine.specs.Memory.{Memory, plane}
-use Rattle.machine.specs.Answers.{Value, changes_of}
+use Rattle.machine.specs.Answers.{Value, changes, changes_of}
 use Rattle.machine.specs.Graphics.{odd_even}
 use Rattle.machine.specs.Sequencer.{chain_four, in_mask, stored_at}
 use Rattle.machine.specs.Address.{a0}
 use Rattle.machine.specs.DataPath.{visits}
-use Rattle.machine.specs.Deeds.{byte, latch, any, laid, remade, stored, stored_byte, changed_at, memory_after}
+use Rattle.machine.specs.Deeds.{latch, any, laid, remade, stored, stored_byte, changed_at, memory_after}
 use Rattle.machine.specs.Calls.{write_deed}
-use Rattle.machine.proofs.Laws.{below, laid_more, laid-skip}
-use Rattle.machine.proofs.Changes.{unchanged, remade-changes}
+use Rattle.machine.proofs.Laws.{below, laid_none, laid-all, laid_more, laid-skip}
+use Rattle.machine.proofs.Changes.{remade-changes}
 use Rattle.sequencer_masks.specs.Mask.{mask_of}
 use Rattle.graphics_bytes.specs.PlaneBytes.{plane_bytes, four}
 use Rattle.graphics_bytes.proofs.Bytes.{latch-four}
@@ -62,14 +62,14 @@ module _ (r : GraphicsRegisters) (s : Sequencer) (x o k : ℕ) (a : Bool) (masks
   mask_is = masks ∙ ap (mask_of s o) even
 
   -- visited, and in the mask
-  pub both-masks : (v : ℕ) → v ≡ of_bits 4 (λ p. bit_of (visits r x p)) → bit_and v k ≡ stores_to r s x o
+  pub both_masks : (v : ℕ) → v ≡ of_bits 4 (λ p. bit_of (visits r x p)) → bit_and v k ≡ stores_to r s x o
   unfolding stores_to stores
-  both-masks v e = ap₂ bit_and e mask_is ∙ tests-shared (visits r x) (in_mask s o (a0 x))
+  both_masks v e = ap₂ bit_and e mask_is ∙ tests-shared (visits r x) (in_mask s o (a0 x))
 
   -- where the controller addresses sequentially, every plane is visited
-  pub mask-alone : OddEvenModeComplement.Sequential ≡ odd_even r → k ≡ stores_to r s x o
+  pub mask_alone : OddEvenModeComplement.Sequential ≡ odd_even r → k ≡ stores_to r s x o
   unfolding stores_to stores visits
-  mask-alone e = rw (← e) mask_is
+  mask_alone e = rw (← e) mask_is
 
 -- without chain-four a store stays at its offset
 pub stays : (s : Sequencer) (o : ℕ) (b : Bool) → b ≡ chain_four s → b ≡ false → o ≡ stored_at s o
@@ -131,27 +131,29 @@ turn o w b m₀ m k h e = rw (add-one k, e) (go (w k) refl)
         ∙ laid_more o w b m₀ k h eb
     go false eb = laid-skip o w b m₀ k h eb
 
--- .. and its number among the four: the numbers so far are those of the planes so far
-pub turn-number : (o : ℕ) (w : ℕ → Bool) (b : ℕ → ℕ) (m₀ m m' : Memory) (k n : ℕ) (l : List ℕ) → k < 4 → m ≡ laid o (below k w) b m₀ → m' ≡ laid o (below (k + 1) w) b m₀
-    → n ≡ changed_at m m' o k → l ≡ four (changed_at m₀ m o) → set l k n ≡ four (changed_at m₀ m' o)
-turn-number o w b m₀ m m' k n l h e e' en el =
-    let next = e' ∙ ap (λ (j : ℕ). laid o (below j w) b m₀) (add-one k) in
-    ap₂ (λ (x : List ℕ) (y : ℕ). set x k y) (el ∙ ap (λ (q : Memory). four (changed_at m₀ q o)) e) (en ∙ ap₂ (λ (q r : Memory). changed_at q r o k) e next)
-    ∙ go k h
-    ∙ ap (λ (q : Memory). four (changed_at m₀ q o)) (sym next)
-  where
-    go : (k : ℕ) → k < 4 → set (four (changed_at m₀ (laid o (below k w) b m₀) o)) k (changed_at (laid o (below k w) b m₀) (laid o (below (suc k) w) b m₀) o k)
-        ≡ four (changed_at m₀ (laid o (below (suc k) w) b m₀) o)
-    go zero h = unfold laid changed_at in refl
-    go (suc zero) h = unfold laid changed_at in refl
-    go (suc (suc zero)) h = unfold laid changed_at in refl
-    go (suc (suc (suc zero))) h = unfold laid changed_at in refl
-    go (suc (suc (suc (suc k)))) h = absurd (omega arith)
+-- four visits
+module _ (o : ℕ) (w : ℕ → Bool) (b : ℕ → ℕ) (m₀ m₁ m₂ m₃ m₄ : Memory) where
+  abbrev visit : ℕ → Memory → Memory
+  visit k m = pick (w k) (laid o (λ q. eqb q k) (λ q. b k) m) m
 
--- before the first visit no plane has changed
-pub none-visited : (m : Memory) (o : ℕ) → 0 ∷ 0 ∷ 0 ∷ 0 ∷ [] ≡ four (changed_at m m o)
-unfolding changed_at
-none-visited m o = rw (unchanged (byte m 0 o), unchanged (byte m 1 o), unchanged (byte m 2 o), unchanged (byte m 3 o))
+  module _ (e₁ : m₁ ≡ visit 0 m₀) (e₂ : m₂ ≡ visit 1 m₁) (e₃ : m₃ ≡ visit 2 m₂) (e₄ : m₄ ≡ visit 3 m₃) where
+    first : m₁ ≡ laid o (below 1 w) b m₀
+    first = e₁ ∙ turn o w b m₀ m₀ 0 (lit< tt) (sym (laid_none o w b m₀))
+
+    second : m₂ ≡ laid o (below 2 w) b m₀
+    second = e₂ ∙ turn o w b m₀ m₁ 1 (lit< tt) first
+
+    third : m₃ ≡ laid o (below 3 w) b m₀
+    third = e₃ ∙ turn o w b m₀ m₂ 2 (lit< tt) second
+
+    pub all-visited : m₄ ≡ laid o w b m₀
+    all-visited = e₄ ∙ turn o w b m₀ m₃ 3 (lit< tt) third ∙ laid-all o w b m₀
+
+    -- .. and the number of each, of what is left after all four
+    pub all-counted : {a b c d : ℕ} → a ≡ changed_at m₀ m₁ o 0 → b ≡ changed_at m₁ m₂ o 1 → c ≡ changed_at m₂ m₃ o 2 → d ≡ changed_at m₃ m₄ o 3
+        → changes a b c d ≡ changes_of (changed_at m₀ m₄ o)
+    unfolding changed_at laid
+    all-counted ea eb ec ed = rw (ea, eb, ec, ed, all-visited, third, second, first)
 
 -- ---- the deed of a write
 

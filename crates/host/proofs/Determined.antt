@@ -2,8 +2,9 @@
 -- record and the same five slices. A slice lent as `&` cannot change.
 use Rattle.std.proofs.Common.{sym, ap, ◌∙◌}
 use contract.Lifetimes.{Lfts}
-use borrow.Fn.Kinds.{Dens}
-use Rattle.machine.specs.Memory.{Memory, mem}
+use denote.Triple.Clauses.{AtExit}
+use borrow.Fn.Kinds.{Dens, ended_of}
+use Rattle.machine.specs.Memory.{Memory, lent, remade_in}
 use Rattle.answers.proofs.Told.{answer-is, pixel-is, clock-is, mapped-is}
 use Rattle.host_records.proofs.Told.{sequencer-answer-is}
 use Rattle.host_calls.specs.Hosted.{Held, held}
@@ -98,47 +99,60 @@ use Rattle.host.proofs.access.iddesmar_gc_serialize_2.Kinds as gc-serialize-kind
 use Rattle.host.proofs.access.iddesmar_gc_show_pixels_2.Reads as gc-show-pixels
 use Rattle.host.proofs.access.iddesmar_gc_show_pixels_2.Kinds as gc-show-pixels-kinds
 
+-- what a store leaves behind its five slices, by the place of the loan among what the call is handed; a write of the processor's leaves the record too
+abbrev left-by-vram : (κs : Lfts 2) → AtExit (ended_of 2 vram-plane-set-kinds.ps vram-plane-set-kinds.r) κs → Memory
+left-by-vram κs e = lent e.0.now
+
+abbrev left-by-deplane : (κs : Lfts 3) → AtExit (ended_of 3 vram-deplane-kinds.ps vram-deplane-kinds.r) κs → Memory
+left-by-deplane κs e = remade_in e.0.now
+
+abbrev left-by-seq : (κs : Lfts 2) → AtExit (ended_of 2 seq-plane-set-kinds.ps seq-plane-set-kinds.r) κs → Memory
+left-by-seq κs e = lent e.1.0.now
+
+abbrev left-by-write : (κs : Lfts 4) → AtExit (ended_of 4 gc-cpu-write-u8-kinds.ps gc-cpu-write-u8-kinds.r) κs → Held
+left-by-write κs e = held e.0.now (lent e.1.1.0.now)
+
 -- ---- memory alone
 
-module _ (κs : Lfts 5) (a : Dens κs vram-read-u8-kinds.ps) where
+module _ (κs : Lfts 3) (a : Dens κs vram-read-u8-kinds.ps) where
   pub vram-read-u8-determined : OneAnswer (vram-read-u8.Post κs a)
   vram-read-u8-determined r r' e e' p q = answer-is r r' (answer-of p q)
 
-module _ (κs : Lfts 5) (a : Dens κs vram-peek-u8-kinds.ps) where
+module _ (κs : Lfts 3) (a : Dens κs vram-peek-u8-kinds.ps) where
   pub vram-peek-u8-determined : OneAnswer (vram-peek-u8.Post κs a)
   vram-peek-u8-determined r r' e e' p q = answer-is r r' (answer-of p q)
 
-module _ (κs : Lfts 5) (a : Dens κs vram-read-glyph-kinds.ps) where
+module _ (κs : Lfts 3) (a : Dens κs vram-read-glyph-kinds.ps) where
   pub vram-read-glyph-determined : OneAnswer (vram-read-glyph.Post κs a)
   vram-read-glyph-determined r r' e e' p q = answer-is r r' (answer-of p q)
 
-module _ (κs : Lfts 5) (a : Dens κs vram-read-linear-kinds.ps) where
+module _ (κs : Lfts 3) (a : Dens κs vram-read-linear-kinds.ps) where
   pub vram-read-linear-determined : OneAnswer (vram-read-linear.Post κs a)
   vram-read-linear-determined r r' e e' p q = pixel-is r r' (answer-of p q)
 
-module _ (κs : Lfts 5) (a : Dens κs vram-serialize-linear-kinds.ps) where
+module _ (κs : Lfts 3) (a : Dens κs vram-serialize-linear-kinds.ps) where
   pub vram-serialize-linear-determined : OneAnswer (vram-serialize-linear.Post κs a)
   vram-serialize-linear-determined r r' e e' p q = p ∙ sym q
 
-module _ (κs : Lfts 5) (a : Dens κs vram-write-u8-kinds.ps) where
-  pub vram-write-u8-determined : OneOutcome (vram-write-u8.Post κs a) (λ e. mem e.0.now e.1.0.now e.1.1.0.now e.1.1.1.0.now e.1.1.1.1.0.now)
-  vram-write-u8-determined r r' e e' p q = (p.0 ∙ sym q.0, p.1 ∙ sym q.1)
+module _ (κs : Lfts 2) (a : Dens κs vram-write-u8-kinds.ps) where
+  pub vram-write-u8-determined : OneOutcome (vram-write-u8.Post κs a) (left-by-vram κs)
+  vram-write-u8-determined r r' e e' p q = (p.1.0 ∙ sym q.1.0, p.1.1 ∙ sym q.1.1)
 
-module _ (κs : Lfts 5) (a : Dens κs vram-plane-set-kinds.ps) where
-  pub vram-plane-set-determined : OneOutcome (vram-plane-set.Post κs a) (λ e. mem e.0.now e.1.0.now e.1.1.0.now e.1.1.1.0.now e.1.1.1.1.0.now)
-  vram-plane-set-determined r r' e e' p q = (p.0 ∙ sym q.0, p.1 ∙ sym q.1)
+module _ (κs : Lfts 2) (a : Dens κs vram-plane-set-kinds.ps) where
+  pub vram-plane-set-determined : OneOutcome (vram-plane-set.Post κs a) (left-by-vram κs)
+  vram-plane-set-determined r r' e e' p q = (p.1.0 ∙ sym q.1.0, p.1.1 ∙ sym q.1.1)
 
-module _ (κs : Lfts 5) (a : Dens κs vram-plane-and-kinds.ps) where
-  pub vram-plane-and-determined : OneOutcome (vram-plane-and.Post κs a) (λ e. mem e.0.now e.1.0.now e.1.1.0.now e.1.1.1.0.now e.1.1.1.1.0.now)
-  vram-plane-and-determined r r' e e' p q = (p.0 ∙ sym q.0, p.1 ∙ sym q.1)
+module _ (κs : Lfts 2) (a : Dens κs vram-plane-and-kinds.ps) where
+  pub vram-plane-and-determined : OneOutcome (vram-plane-and.Post κs a) (left-by-vram κs)
+  vram-plane-and-determined r r' e e' p q = (p.1.0 ∙ sym q.1.0, p.1.1 ∙ sym q.1.1)
 
-module _ (κs : Lfts 5) (a : Dens κs vram-plane-or-kinds.ps) where
-  pub vram-plane-or-determined : OneOutcome (vram-plane-or.Post κs a) (λ e. mem e.0.now e.1.0.now e.1.1.0.now e.1.1.1.0.now e.1.1.1.1.0.now)
-  vram-plane-or-determined r r' e e' p q = (p.0 ∙ sym q.0, p.1 ∙ sym q.1)
+module _ (κs : Lfts 2) (a : Dens κs vram-plane-or-kinds.ps) where
+  pub vram-plane-or-determined : OneOutcome (vram-plane-or.Post κs a) (left-by-vram κs)
+  vram-plane-or-determined r r' e e' p q = (p.1.0 ∙ sym q.1.0, p.1.1 ∙ sym q.1.1)
 
-module _ (κs : Lfts 5) (a : Dens κs vram-deplane-kinds.ps) where
-  pub vram-deplane-determined : OneOutcome (vram-deplane.Post κs a) (λ e. e.1.1.1.1.0.now)
-  vram-deplane-determined r r' e e' p q = (answer-is r r' (answer-of p q), ap (λ (m : Memory). m.picture) (next_of p q))
+module _ (κs : Lfts 3) (a : Dens κs vram-deplane-kinds.ps) where
+  pub vram-deplane-determined : OneOutcome (vram-deplane.Post κs a) (left-by-deplane κs)
+  vram-deplane-determined r r' e e' p q = (answer-is r r' (answer-of p.1 q.1), next_of p.1 q.1)
 
 -- ---- the sequencer's record
 
@@ -172,37 +186,37 @@ module _ (κs : Lfts 0) (a : Dens κs seq-read-data-kinds.ps) where
 
 -- ---- the sequencer's record and memory
 
-module _ (κs : Lfts 5) (a : Dens κs seq-cpu-read-u8-kinds.ps) where
+module _ (κs : Lfts 3) (a : Dens κs seq-cpu-read-u8-kinds.ps) where
   pub seq-cpu-read-u8-determined : OneAnswer (seq-cpu-read-u8.Post κs a)
   seq-cpu-read-u8-determined r r' e e' p q = answer-is r r' (answer-of p q)
 
-module _ (κs : Lfts 5) (a : Dens κs seq-peek-u8-kinds.ps) where
+module _ (κs : Lfts 3) (a : Dens κs seq-peek-u8-kinds.ps) where
   pub seq-peek-u8-determined : OneAnswer (seq-peek-u8.Post κs a)
   seq-peek-u8-determined r r' e e' p q = answer-is r r' (answer-of p q)
 
-module _ (κs : Lfts 5) (a : Dens κs seq-gc-read-u8-kinds.ps) where
+module _ (κs : Lfts 3) (a : Dens κs seq-gc-read-u8-kinds.ps) where
   pub seq-gc-read-u8-determined : OneAnswer (seq-gc-read-u8.Post κs a)
   seq-gc-read-u8-determined r r' e e' p q = answer-is r r' (answer-of p q)
 
-module _ (κs : Lfts 5) (a : Dens κs seq-read-linear-kinds.ps) where
+module _ (κs : Lfts 3) (a : Dens κs seq-read-linear-kinds.ps) where
   pub seq-read-linear-determined : OneAnswer (seq-read-linear.Post κs a)
   seq-read-linear-determined r r' e e' p q = pixel-is r r' (answer-of p q)
 
-module _ (κs : Lfts 5) (a : Dens κs seq-serialize-linear-kinds.ps) where
+module _ (κs : Lfts 3) (a : Dens κs seq-serialize-linear-kinds.ps) where
   pub seq-serialize-linear-determined : OneAnswer (seq-serialize-linear.Post κs a)
   seq-serialize-linear-determined r r' e e' p q = p ∙ sym q
 
-module _ (κs : Lfts 5) (a : Dens κs seq-plane-set-kinds.ps) where
-  pub seq-plane-set-determined : OneOutcome (seq-plane-set.Post κs a) (λ e. mem e.1.0.now e.1.1.0.now e.1.1.1.0.now e.1.1.1.1.0.now e.1.1.1.1.1.0.now)
-  seq-plane-set-determined r r' e e' p q = (p.0 ∙ sym q.0, p.1 ∙ sym q.1)
+module _ (κs : Lfts 2) (a : Dens κs seq-plane-set-kinds.ps) where
+  pub seq-plane-set-determined : OneOutcome (seq-plane-set.Post κs a) (left-by-seq κs)
+  seq-plane-set-determined r r' e e' p q = (p.1.0 ∙ sym q.1.0, p.1.1 ∙ sym q.1.1)
 
-module _ (κs : Lfts 5) (a : Dens κs seq-plane-and-kinds.ps) where
-  pub seq-plane-and-determined : OneOutcome (seq-plane-and.Post κs a) (λ e. mem e.1.0.now e.1.1.0.now e.1.1.1.0.now e.1.1.1.1.0.now e.1.1.1.1.1.0.now)
-  seq-plane-and-determined r r' e e' p q = (p.0 ∙ sym q.0, p.1 ∙ sym q.1)
+module _ (κs : Lfts 2) (a : Dens κs seq-plane-and-kinds.ps) where
+  pub seq-plane-and-determined : OneOutcome (seq-plane-and.Post κs a) (left-by-seq κs)
+  seq-plane-and-determined r r' e e' p q = (p.1.0 ∙ sym q.1.0, p.1.1 ∙ sym q.1.1)
 
-module _ (κs : Lfts 5) (a : Dens κs seq-plane-or-kinds.ps) where
-  pub seq-plane-or-determined : OneOutcome (seq-plane-or.Post κs a) (λ e. mem e.1.0.now e.1.1.0.now e.1.1.1.0.now e.1.1.1.1.0.now e.1.1.1.1.1.0.now)
-  seq-plane-or-determined r r' e e' p q = (p.0 ∙ sym q.0, p.1 ∙ sym q.1)
+module _ (κs : Lfts 2) (a : Dens κs seq-plane-or-kinds.ps) where
+  pub seq-plane-or-determined : OneOutcome (seq-plane-or.Post κs a) (left-by-seq κs)
+  seq-plane-or-determined r r' e e' p q = (p.1.0 ∙ sym q.1.0, p.1.1 ∙ sym q.1.1)
 
 -- ---- the controller's record
 
@@ -264,22 +278,22 @@ module _ (κs : Lfts 1) (a : Dens κs seq-write-data-2-kinds.ps) where
   pub seq-write-data-2-determined : OneOutcome (seq-write-data-2.Post κs a) (λ e. e.0.now)
   seq-write-data-2-determined r r' e e' p q = (answer-is r r' (answer-of p q), next_of p q)
 
-module _ (κs : Lfts 7) (a : Dens κs gc-cpu-read-u8-kinds.ps) where
+module _ (κs : Lfts 5) (a : Dens κs gc-cpu-read-u8-kinds.ps) where
   pub gc-cpu-read-u8-determined : OneOutcome (gc-cpu-read-u8.Post κs a) (λ e. e.0.now)
   gc-cpu-read-u8-determined r r' e e' p q = (answer-is r r' (answer-of p q), ap (λ (h : Held). h.gc) (next_of p q))
 
-module _ (κs : Lfts 7) (a : Dens κs gc-cpu-write-u8-kinds.ps) where
-  pub gc-cpu-write-u8-determined : OneOutcome (gc-cpu-write-u8.Post κs a) (λ e. held e.0.now (mem e.1.1.0.now e.1.1.1.0.now e.1.1.1.1.0.now e.1.1.1.1.1.0.now e.1.1.1.1.1.1.0.now))
-  gc-cpu-write-u8-determined r r' e e' p q = (p.0 ∙ sym q.0, p.1 ∙ sym q.1)
+module _ (κs : Lfts 4) (a : Dens κs gc-cpu-write-u8-kinds.ps) where
+  pub gc-cpu-write-u8-determined : OneOutcome (gc-cpu-write-u8.Post κs a) (left-by-write κs)
+  gc-cpu-write-u8-determined r r' e e' p q = (p.1.0 ∙ sym q.1.0, p.1.1 ∙ sym q.1.1)
 
-module _ (κs : Lfts 7) (a : Dens κs gc-cpu-peek-u8-kinds.ps) where
+module _ (κs : Lfts 5) (a : Dens κs gc-cpu-peek-u8-kinds.ps) where
   pub gc-cpu-peek-u8-determined : OneAnswer (gc-cpu-peek-u8.Post κs a)
   gc-cpu-peek-u8-determined r r' e e' p q = answer-is r r' (answer-of p q)
 
-module _ (κs : Lfts 7) (a : Dens κs gc-serialize-kinds.ps) where
+module _ (κs : Lfts 5) (a : Dens κs gc-serialize-kinds.ps) where
   pub gc-serialize-determined : OneAnswer (gc-serialize.Post κs a)
   gc-serialize-determined r r' e e' p q = p ∙ sym q
 
-module _ (κs : Lfts 7) (a : Dens κs gc-show-pixels-kinds.ps) where
+module _ (κs : Lfts 5) (a : Dens κs gc-show-pixels-kinds.ps) where
   pub gc-show-pixels-determined : OneAnswer (gc-show-pixels.Post κs a)
   gc-show-pixels-determined r r' e e' p q = p ∙ sym q

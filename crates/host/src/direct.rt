@@ -1,6 +1,9 @@
 // The sequencer's own calls on memory, on its record by value.
+#![tactic(auto, unfolding(host_calls::specs::Hosted::direct_hosted), using(host_calls::proofs::Laws::direct_left))]
+
 ghost use Rattle.std.specs.Prelude.{◌≡◌, []};
-ghost use Rattle.machine.specs.Memory.{mem};
+ghost use Rattle.machine_types.specs.Slices.{SameSlices};
+ghost use Rattle.machine.specs.Memory.{seen, lent};
 ghost use Rattle.machine.specs.Answers.{one, pixel, part, changes, outcome};
 ghost use Rattle.machine.specs.Calls.{seq_cpu_read_u8, seq_peek_u8, seq_gc_read_u8, seq_read_linear, seq_serialize_linear, seq_plane_set, seq_plane_and, seq_plane_or};
 ghost use Rattle.answers.specs.Answers.{answer_said, pixel_answer_said};
@@ -8,196 +11,124 @@ ghost use Rattle.answers.specs.Wide.{shown_of, StoredAs};
 ghost use Rattle.host_records.specs.Records.{is_set};
 ghost use Rattle.host_calls.specs.Hosted.{direct_hosted};
 
-use answers::{
-    Answer, Shown, Stored, of_byte, of_part, of_pixel, of_store, unknown, unknown_shown,
-    unknown_stored,
-};
-use host_records::record::{SequencerRecord, is_set, known_sequencer, to_sequencer};
-use machine_types::{PixelPlace, PlaneOffset};
+use answers::{Answer, Shown, Stored, of_pixel, unknown, unknown_shown, unknown_stored};
+use host_records::record::{SequencerRecord, is_set};
+use machine_types::{LentToRead, LentToStore, PixelPlace, PlaneOffset};
 
 pub fn iddesmar_seq_cpu_read_u8(
     seq: SequencerRecord,
-    p0: &[u8],
-    p1: &[u8],
-    p2: &[u8],
-    p3: &[u8],
-    picture: &[u8],
+    memory: &LentToRead,
     plane: usize,
     offset: usize,
     a0: u8,
 ) -> Answer
-    ensures { outcome (answer_said result) (mem p0.now p1.now p2.now p3.now picture.now)
-        ≡ direct_hosted seq (mem p0.now p1.now p2.now p3.now picture.now) (one 0) (seq_cpu_read_u8 plane offset (is_set a0)) }
+    ensures { outcome (answer_said result) (seen memory.now) ≡ direct_hosted seq (seen memory.now) (one 0) (seq_cpu_read_u8 plane offset (is_set a0)) }
 {
-    if !known_sequencer(seq) {
+    let Ok(seq) = seq.meant() else {
         return unknown();
-    }
-    let sequencer = to_sequencer(seq);
-    let at = PlaneOffset(offset);
-    let odd = is_set(a0);
-    let answer = sequencer::cpu_read_u8(sequencer, p0, p1, p2, p3, picture, plane, at, odd);
-    of_byte(answer)
+    };
+    sequencer::cpu_read_u8(seq, memory, plane, PlaneOffset(offset), is_set(a0)).into()
 }
 
 pub fn iddesmar_seq_peek_u8(
     seq: SequencerRecord,
-    p0: &[u8],
-    p1: &[u8],
-    p2: &[u8],
-    p3: &[u8],
-    picture: &[u8],
+    memory: &LentToRead,
     plane: usize,
     offset: usize,
     a0: u8,
 ) -> Answer
-    ensures { outcome (answer_said result) (mem p0.now p1.now p2.now p3.now picture.now)
-        ≡ direct_hosted seq (mem p0.now p1.now p2.now p3.now picture.now) (one 0) (seq_peek_u8 plane offset (is_set a0)) }
+    ensures { outcome (answer_said result) (seen memory.now) ≡ direct_hosted seq (seen memory.now) (one 0) (seq_peek_u8 plane offset (is_set a0)) }
 {
-    if !known_sequencer(seq) {
+    let Ok(seq) = seq.meant() else {
         return unknown();
-    }
-    let sequencer = to_sequencer(seq);
-    let at = PlaneOffset(offset);
-    let odd = is_set(a0);
-    let answer = sequencer::peek_u8(sequencer, p0, p1, p2, p3, picture, plane, at, odd);
-    of_byte(answer)
+    };
+    sequencer::peek_u8(seq, memory, plane, PlaneOffset(offset), is_set(a0)).into()
 }
 
 pub fn iddesmar_seq_gc_read_u8(
     seq: SequencerRecord,
-    p0: &[u8],
-    p1: &[u8],
-    p2: &[u8],
-    p3: &[u8],
-    picture: &[u8],
+    memory: &LentToRead,
     plane: usize,
     offset: usize,
     a0: u8,
 ) -> Answer
-    ensures { outcome (answer_said result) (mem p0.now p1.now p2.now p3.now picture.now)
-        ≡ direct_hosted seq (mem p0.now p1.now p2.now p3.now picture.now) (one 0) (seq_gc_read_u8 plane offset (is_set a0)) }
+    ensures { outcome (answer_said result) (seen memory.now) ≡ direct_hosted seq (seen memory.now) (one 0) (seq_gc_read_u8 plane offset (is_set a0)) }
 {
-    if !known_sequencer(seq) {
+    let Ok(seq) = seq.meant() else {
         return unknown();
-    }
-    let sequencer = to_sequencer(seq);
-    let at = PlaneOffset(offset);
-    let odd = is_set(a0);
-    let answer = sequencer::gc_read_u8(sequencer, p0, p1, p2, p3, picture, plane, at, odd);
-    of_byte(answer)
+    };
+    sequencer::gc_read_u8(seq, memory, plane, PlaneOffset(offset), is_set(a0)).into()
 }
 
-pub fn iddesmar_seq_read_linear(
-    seq: SequencerRecord,
-    p0: &[u8],
-    p1: &[u8],
-    p2: &[u8],
-    p3: &[u8],
-    picture: &[u8],
-    place: usize,
-) -> Answer
-    ensures { outcome (pixel_answer_said result) (mem p0.now p1.now p2.now p3.now picture.now) ≡ direct_hosted seq (mem p0.now p1.now p2.now p3.now picture.now) (pixel 0) (seq_read_linear place) }
+pub fn iddesmar_seq_read_linear(seq: SequencerRecord, memory: &LentToRead, place: usize) -> Answer
+    ensures { outcome (pixel_answer_said result) (seen memory.now) ≡ direct_hosted seq (seen memory.now) (pixel 0) (seq_read_linear place) }
 {
-    if !known_sequencer(seq) {
+    let Ok(seq) = seq.meant() else {
         return unknown();
-    }
-    let sequencer = to_sequencer(seq);
-    let answer = sequencer::read_linear(sequencer, p0, p1, p2, p3, picture, PixelPlace(place));
-    of_pixel(answer)
+    };
+    of_pixel(sequencer::read_linear(seq, memory, PixelPlace(place)))
 }
 
 pub fn iddesmar_seq_serialize_linear(
     seq: SequencerRecord,
-    p0: &[u8],
-    p1: &[u8],
-    p2: &[u8],
-    p3: &[u8],
-    picture: &[u8],
+    memory: &LentToRead,
     offset: usize,
 ) -> Shown
-    ensures { result ≡ shown_of (direct_hosted seq (mem p0.now p1.now p2.now p3.now picture.now) (part []) (seq_serialize_linear offset)).answer }
+    ensures { result ≡ shown_of (direct_hosted seq (seen memory.now) (part []) (seq_serialize_linear offset)).answer }
 {
-    if !known_sequencer(seq) {
+    let Ok(seq) = seq.meant() else {
         return unknown_shown();
-    }
-    let sequencer = to_sequencer(seq);
-    let mut number = 0u8;
-    let at = PlaneOffset(offset);
-    let part = sequencer::serialize_linear(sequencer, p0, p1, p2, p3, picture, at, &mut number);
-    of_part(number, part)
+    };
+    sequencer::serialize_linear(seq, memory, PlaneOffset(offset)).into()
 }
 
 pub fn iddesmar_seq_plane_set(
     seq: SequencerRecord,
-    p0: &mut [u8],
-    p1: &mut [u8],
-    p2: &mut [u8],
-    p3: &mut [u8],
-    picture: &mut [u8],
+    memory: &mut LentToStore,
     plane: usize,
     offset: usize,
     a0: u8,
     byte: u8,
 ) -> Stored
-    ensures { StoredAs result (mem p0.new p1.new p2.new p3.new picture.new)
-        (direct_hosted seq (mem p0.old p1.old p2.old p3.old picture.old) (changes 0 0 0 0) (seq_plane_set plane offset (is_set a0) byte)) }
+    ensures same_slices { SameSlices memory.old memory.new }
+    ensures does { StoredAs result (lent memory.new) (direct_hosted seq (lent memory.old) (changes 0 0 0 0) (seq_plane_set plane offset (is_set a0) byte)) }
 {
-    if !known_sequencer(seq) {
+    let Ok(seq) = seq.meant() else {
         return unknown_stored();
-    }
-    let sequencer = to_sequencer(seq);
-    let at = PlaneOffset(offset);
-    let odd = is_set(a0);
-    let answer = sequencer::plane_set(sequencer, p0, p1, p2, p3, picture, plane, at, odd, byte);
-    of_store(answer)
+    };
+    sequencer::plane_set(seq, memory, plane, PlaneOffset(offset), is_set(a0), byte).into()
 }
 
 pub fn iddesmar_seq_plane_and(
     seq: SequencerRecord,
-    p0: &mut [u8],
-    p1: &mut [u8],
-    p2: &mut [u8],
-    p3: &mut [u8],
-    picture: &mut [u8],
+    memory: &mut LentToStore,
     plane: usize,
     offset: usize,
     a0: u8,
     byte: u8,
 ) -> Stored
-    ensures { StoredAs result (mem p0.new p1.new p2.new p3.new picture.new)
-        (direct_hosted seq (mem p0.old p1.old p2.old p3.old picture.old) (changes 0 0 0 0) (seq_plane_and plane offset (is_set a0) byte)) }
+    ensures same_slices { SameSlices memory.old memory.new }
+    ensures does { StoredAs result (lent memory.new) (direct_hosted seq (lent memory.old) (changes 0 0 0 0) (seq_plane_and plane offset (is_set a0) byte)) }
 {
-    if !known_sequencer(seq) {
+    let Ok(seq) = seq.meant() else {
         return unknown_stored();
-    }
-    let sequencer = to_sequencer(seq);
-    let at = PlaneOffset(offset);
-    let odd = is_set(a0);
-    let answer = sequencer::plane_and(sequencer, p0, p1, p2, p3, picture, plane, at, odd, byte);
-    of_store(answer)
+    };
+    sequencer::plane_and(seq, memory, plane, PlaneOffset(offset), is_set(a0), byte).into()
 }
 
 pub fn iddesmar_seq_plane_or(
     seq: SequencerRecord,
-    p0: &mut [u8],
-    p1: &mut [u8],
-    p2: &mut [u8],
-    p3: &mut [u8],
-    picture: &mut [u8],
+    memory: &mut LentToStore,
     plane: usize,
     offset: usize,
     a0: u8,
     byte: u8,
 ) -> Stored
-    ensures { StoredAs result (mem p0.new p1.new p2.new p3.new picture.new)
-        (direct_hosted seq (mem p0.old p1.old p2.old p3.old picture.old) (changes 0 0 0 0) (seq_plane_or plane offset (is_set a0) byte)) }
+    ensures same_slices { SameSlices memory.old memory.new }
+    ensures does { StoredAs result (lent memory.new) (direct_hosted seq (lent memory.old) (changes 0 0 0 0) (seq_plane_or plane offset (is_set a0) byte)) }
 {
-    if !known_sequencer(seq) {
+    let Ok(seq) = seq.meant() else {
         return unknown_stored();
-    }
-    let sequencer = to_sequencer(seq);
-    let at = PlaneOffset(offset);
-    let odd = is_set(a0);
-    let answer = sequencer::plane_or(sequencer, p0, p1, p2, p3, picture, plane, at, odd, byte);
-    of_store(answer)
+    };
+    sequencer::plane_or(seq, memory, plane, PlaneOffset(offset), is_set(a0), byte).into()
 }

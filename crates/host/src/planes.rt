@@ -1,162 +1,97 @@
 // The calls on memory alone, as vram.rs has them: no record is handed in.
 ghost use Rattle.std.specs.Prelude.{◌≡◌};
-ghost use Rattle.machine.specs.Memory.{mem};
+ghost use Rattle.machine_types.specs.Slices.{SamePicture, SameSlices};
+ghost use Rattle.machine.specs.Memory.{seen, lent, remade_in};
 ghost use Rattle.machine.specs.Answers.{outcome};
 ghost use Rattle.machine.specs.Calls.{read_u8, peek_u8, read_glyph, read_linear, serialize_linear, write_u8, plane_set, plane_and, plane_or, deplane as remakes};
 ghost use Rattle.machine.specs.Step.{vram_step};
 ghost use Rattle.answers.specs.Answers.{answer_said, pixel_answer_said};
 ghost use Rattle.answers.specs.Wide.{shown_of, StoredAs};
 
-use answers::{Answer, Shown, Stored, of_byte, of_done, of_part, of_pixel, of_store};
-use machine_types::{PixelPlace, PlaneOffset};
+use answers::{Answer, Shown, Stored, of_pixel};
+use machine_types::{LentToRead, LentToRemake, LentToStore, PixelPlace, PlaneOffset};
 
-pub fn iddesmar_vram_read_u8(
-    p0: &[u8],
-    p1: &[u8],
-    p2: &[u8],
-    p3: &[u8],
-    picture: &[u8],
-    plane: usize,
-    offset: usize,
-) -> Answer
-    ensures { outcome (answer_said result) (mem p0.now p1.now p2.now p3.now picture.now) ≡ vram_step (mem p0.now p1.now p2.now p3.now picture.now) (read_u8 plane offset) }
+pub fn iddesmar_vram_read_u8(memory: &LentToRead, plane: usize, offset: usize) -> Answer
+    ensures { outcome (answer_said result) (seen memory.now) ≡ vram_step (seen memory.now) (read_u8 plane offset) }
 {
-    let answer = vram::read_u8(p0, p1, p2, p3, picture, plane, PlaneOffset(offset));
-    of_byte(answer)
+    vram::read_u8(memory, plane, PlaneOffset(offset)).into()
 }
 
-pub fn iddesmar_vram_peek_u8(
-    p0: &[u8],
-    p1: &[u8],
-    p2: &[u8],
-    p3: &[u8],
-    picture: &[u8],
-    plane: usize,
-    offset: usize,
-) -> Answer
-    ensures { outcome (answer_said result) (mem p0.now p1.now p2.now p3.now picture.now) ≡ vram_step (mem p0.now p1.now p2.now p3.now picture.now) (peek_u8 plane offset) }
+pub fn iddesmar_vram_peek_u8(memory: &LentToRead, plane: usize, offset: usize) -> Answer
+    ensures { outcome (answer_said result) (seen memory.now) ≡ vram_step (seen memory.now) (peek_u8 plane offset) }
 {
-    let answer = vram::peek_u8(p0, p1, p2, p3, picture, plane, PlaneOffset(offset));
-    of_byte(answer)
+    vram::peek_u8(memory, plane, PlaneOffset(offset)).into()
 }
 
-pub fn iddesmar_vram_read_glyph(
-    p0: &[u8],
-    p1: &[u8],
-    p2: &[u8],
-    p3: &[u8],
-    picture: &[u8],
-    offset: usize,
-) -> Answer
-    ensures { outcome (answer_said result) (mem p0.now p1.now p2.now p3.now picture.now) ≡ vram_step (mem p0.now p1.now p2.now p3.now picture.now) (read_glyph offset) }
+pub fn iddesmar_vram_read_glyph(memory: &LentToRead, offset: usize) -> Answer
+    ensures { outcome (answer_said result) (seen memory.now) ≡ vram_step (seen memory.now) (read_glyph offset) }
 {
-    let answer = vram::read_glyph(p0, p1, p2, p3, picture, PlaneOffset(offset));
-    of_byte(answer)
+    vram::read_glyph(memory, PlaneOffset(offset)).into()
 }
 
-pub fn iddesmar_vram_read_linear(
-    p0: &[u8],
-    p1: &[u8],
-    p2: &[u8],
-    p3: &[u8],
-    picture: &[u8],
-    place: usize,
-) -> Answer
-    ensures { outcome (pixel_answer_said result) (mem p0.now p1.now p2.now p3.now picture.now) ≡ vram_step (mem p0.now p1.now p2.now p3.now picture.now) (read_linear place) }
+pub fn iddesmar_vram_read_linear(memory: &LentToRead, place: usize) -> Answer
+    ensures { outcome (pixel_answer_said result) (seen memory.now) ≡ vram_step (seen memory.now) (read_linear place) }
 {
-    let answer = vram::read_linear(p0, p1, p2, p3, picture, PixelPlace(place));
-    of_pixel(answer)
+    of_pixel(vram::read_linear(memory, PixelPlace(place)))
 }
 
-pub fn iddesmar_vram_serialize_linear(
-    p0: &[u8],
-    p1: &[u8],
-    p2: &[u8],
-    p3: &[u8],
-    picture: &[u8],
-    offset: usize,
-) -> Shown
-    ensures { result ≡ shown_of (vram_step (mem p0.now p1.now p2.now p3.now picture.now) (serialize_linear offset)).answer }
+pub fn iddesmar_vram_serialize_linear(memory: &LentToRead, offset: usize) -> Shown
+    ensures { result ≡ shown_of (vram_step (seen memory.now) (serialize_linear offset)).answer }
 {
-    let mut number = 0u8;
-    let part = vram::serialize_linear(p0, p1, p2, p3, picture, PlaneOffset(offset), &mut number);
-    of_part(number, part)
+    vram::serialize_linear(memory, PlaneOffset(offset)).into()
 }
 
 pub fn iddesmar_vram_write_u8(
-    p0: &mut [u8],
-    p1: &mut [u8],
-    p2: &mut [u8],
-    p3: &mut [u8],
-    picture: &mut [u8],
+    memory: &mut LentToStore,
     plane: usize,
     offset: usize,
     byte: u8,
 ) -> Stored
-    ensures { StoredAs result (mem p0.new p1.new p2.new p3.new picture.new) (vram_step (mem p0.old p1.old p2.old p3.old picture.old) (write_u8 plane offset byte)) }
+    ensures same_slices { SameSlices memory.old memory.new }
+    ensures does { StoredAs result (lent memory.new) (vram_step (lent memory.old) (write_u8 plane offset byte)) }
 {
-    let answer = vram::write_u8(p0, p1, p2, p3, picture, plane, PlaneOffset(offset), byte);
-    of_store(answer)
+    vram::write_u8(memory, plane, PlaneOffset(offset), byte).into()
 }
 
 pub fn iddesmar_vram_plane_set(
-    p0: &mut [u8],
-    p1: &mut [u8],
-    p2: &mut [u8],
-    p3: &mut [u8],
-    picture: &mut [u8],
+    memory: &mut LentToStore,
     plane: usize,
     offset: usize,
     byte: u8,
 ) -> Stored
-    ensures { StoredAs result (mem p0.new p1.new p2.new p3.new picture.new) (vram_step (mem p0.old p1.old p2.old p3.old picture.old) (plane_set plane offset byte)) }
+    ensures same_slices { SameSlices memory.old memory.new }
+    ensures does { StoredAs result (lent memory.new) (vram_step (lent memory.old) (plane_set plane offset byte)) }
 {
-    let answer = vram::plane_set(p0, p1, p2, p3, picture, plane, PlaneOffset(offset), byte);
-    of_store(answer)
+    vram::plane_set(memory, plane, PlaneOffset(offset), byte).into()
 }
 
 pub fn iddesmar_vram_plane_and(
-    p0: &mut [u8],
-    p1: &mut [u8],
-    p2: &mut [u8],
-    p3: &mut [u8],
-    picture: &mut [u8],
+    memory: &mut LentToStore,
     plane: usize,
     offset: usize,
     byte: u8,
 ) -> Stored
-    ensures { StoredAs result (mem p0.new p1.new p2.new p3.new picture.new) (vram_step (mem p0.old p1.old p2.old p3.old picture.old) (plane_and plane offset byte)) }
+    ensures same_slices { SameSlices memory.old memory.new }
+    ensures does { StoredAs result (lent memory.new) (vram_step (lent memory.old) (plane_and plane offset byte)) }
 {
-    let answer = vram::plane_and(p0, p1, p2, p3, picture, plane, PlaneOffset(offset), byte);
-    of_store(answer)
+    vram::plane_and(memory, plane, PlaneOffset(offset), byte).into()
 }
 
 pub fn iddesmar_vram_plane_or(
-    p0: &mut [u8],
-    p1: &mut [u8],
-    p2: &mut [u8],
-    p3: &mut [u8],
-    picture: &mut [u8],
+    memory: &mut LentToStore,
     plane: usize,
     offset: usize,
     byte: u8,
 ) -> Stored
-    ensures { StoredAs result (mem p0.new p1.new p2.new p3.new picture.new) (vram_step (mem p0.old p1.old p2.old p3.old picture.old) (plane_or plane offset byte)) }
+    ensures same_slices { SameSlices memory.old memory.new }
+    ensures does { StoredAs result (lent memory.new) (vram_step (lent memory.old) (plane_or plane offset byte)) }
 {
-    let answer = vram::plane_or(p0, p1, p2, p3, picture, plane, PlaneOffset(offset), byte);
-    of_store(answer)
+    vram::plane_or(memory, plane, PlaneOffset(offset), byte).into()
 }
 
-pub fn iddesmar_vram_deplane(
-    p0: &[u8],
-    p1: &[u8],
-    p2: &[u8],
-    p3: &[u8],
-    picture: &mut [u8],
-    offset: usize,
-) -> Answer
-    ensures { outcome (answer_said result) (mem p0.now p1.now p2.now p3.now picture.new) ≡ vram_step (mem p0.now p1.now p2.now p3.now picture.old) (remakes offset) }
+pub fn iddesmar_vram_deplane(memory: &mut LentToRemake, offset: usize) -> Answer
+    ensures same_slices { SamePicture memory.old memory.new }
+    ensures does { outcome (answer_said result) (remade_in memory.new) ≡ vram_step (remade_in memory.old) (remakes offset) }
 {
-    let answer = vram::deplane(p0, p1, p2, p3, picture, PlaneOffset(offset));
-    of_done(answer)
+    vram::deplane(memory, PlaneOffset(offset)).into()
 }

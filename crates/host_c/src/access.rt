@@ -11,6 +11,7 @@ ghost use Rattle.host_calls.specs.Hosted.{held, cpu_hosted};
 
 use answers::{Answer, Shown, Stored};
 use host_records::record::{ControllerRecord, SequencerRecord};
+use machine_types::Lent;
 
 #[unsafe(no_mangle)]
 pub extern "C" fn iddesmar_gc_cpu_read_u8_2(
@@ -27,7 +28,14 @@ pub extern "C" fn iddesmar_gc_cpu_read_u8_2(
     ensures { outcome (answer_said result) (held gc.new (mem p0.now p1.now p2.now p3.now picture.now))
         ≡ cpu_hosted gc.old seq.now (mem p0.now p1.now p2.now p3.now picture.now) (one 0) (cpu_read address (is_set page)) }
 {
-    host::access::iddesmar_gc_cpu_read_u8_2(gc, seq, p0, p1, p2, p3, picture, address, page)
+    let memory = Lent {
+        p0,
+        p1,
+        p2,
+        p3,
+        picture,
+    };
+    host::access::iddesmar_gc_cpu_read_u8_2(gc, seq, &memory, address, page)
 }
 
 #[unsafe(no_mangle)]
@@ -46,7 +54,14 @@ pub extern "C" fn iddesmar_gc_cpu_write_u8_2(
     ensures { StoredAs result (held gc.new (mem p0.new p1.new p2.new p3.new picture.new))
         (cpu_hosted gc.old seq.now (mem p0.old p1.old p2.old p3.old picture.old) (changes 0 0 0 0) (cpu_write address (is_set page) byte)) }
 {
-    host::access::iddesmar_gc_cpu_write_u8_2(gc, seq, p0, p1, p2, p3, picture, address, page, byte)
+    let mut memory = Lent {
+        p0,
+        p1,
+        p2,
+        p3,
+        picture,
+    };
+    host::access::iddesmar_gc_cpu_write_u8_2(gc, seq, &mut memory, address, page, byte)
 }
 
 // Plane 0's byte, or under chain-four that of plane offset mod 4; nothing moves.
@@ -65,7 +80,14 @@ pub extern "C" fn iddesmar_gc_cpu_peek_u8_2(
     ensures { outcome (answer_said result) (held gc.now (mem p0.now p1.now p2.now p3.now picture.now))
         ≡ cpu_hosted gc.now seq.now (mem p0.now p1.now p2.now p3.now picture.now) (one 0) (cpu_peek address (is_set page)) }
 {
-    host::access::iddesmar_gc_cpu_peek_u8_2(gc, seq, p0, p1, p2, p3, picture, address, page)
+    let memory = Lent {
+        p0,
+        p1,
+        p2,
+        p3,
+        picture,
+    };
+    host::access::iddesmar_gc_cpu_peek_u8_2(gc, seq, &memory, address, page)
 }
 
 // The eight pixels of an offset, by the older show: refused in two shift modes.
@@ -82,7 +104,14 @@ pub extern "C" fn iddesmar_gc_serialize_2(
 ) -> Shown
     ensures { result ≡ shown_of (cpu_hosted gc.now seq.now (mem p0.now p1.now p2.now p3.now picture.now) (part []) (serialize offset)).answer }
 {
-    host::access::iddesmar_gc_serialize_2(gc, seq, p0, p1, p2, p3, picture, offset)
+    let memory = Lent {
+        p0,
+        p1,
+        p2,
+        p3,
+        picture,
+    };
+    host::access::iddesmar_gc_serialize_2(gc, seq, &memory, offset)
 }
 
 // The eight pixels of an offset, in every shift mode.
@@ -100,5 +129,12 @@ pub extern "C" fn iddesmar_gc_show_pixels_2(
     ensures { result ≡ pixels_shown (cpu_hosted gc.now seq.now (mem p0.now p1.now p2.now p3.now picture.now)
         (shown (shift_mode (controller_of gc.now).registers) no_pixels) (show_pixels offset)).answer }
 {
-    host::access::iddesmar_gc_show_pixels_2(gc, seq, p0, p1, p2, p3, picture, offset)
+    let memory = Lent {
+        p0,
+        p1,
+        p2,
+        p3,
+        picture,
+    };
+    host::access::iddesmar_gc_show_pixels_2(gc, seq, &memory, offset)
 }

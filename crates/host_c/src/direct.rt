@@ -10,6 +10,7 @@ ghost use Rattle.host_calls.specs.Hosted.{direct_hosted};
 
 use answers::{Answer, Shown, Stored};
 use host_records::record::SequencerRecord;
+use machine_types::Lent;
 
 #[unsafe(no_mangle)]
 pub extern "C" fn iddesmar_seq_cpu_read_u8(
@@ -26,7 +27,14 @@ pub extern "C" fn iddesmar_seq_cpu_read_u8(
     ensures { outcome (answer_said result) (mem p0.now p1.now p2.now p3.now picture.now)
         ≡ direct_hosted seq (mem p0.now p1.now p2.now p3.now picture.now) (one 0) (seq_cpu_read_u8 plane offset (is_set a0)) }
 {
-    host::direct::iddesmar_seq_cpu_read_u8(seq, p0, p1, p2, p3, picture, plane, offset, a0)
+    let memory = Lent {
+        p0,
+        p1,
+        p2,
+        p3,
+        picture,
+    };
+    host::direct::iddesmar_seq_cpu_read_u8(seq, &memory, plane, offset, a0)
 }
 
 #[unsafe(no_mangle)]
@@ -44,7 +52,14 @@ pub extern "C" fn iddesmar_seq_peek_u8(
     ensures { outcome (answer_said result) (mem p0.now p1.now p2.now p3.now picture.now)
         ≡ direct_hosted seq (mem p0.now p1.now p2.now p3.now picture.now) (one 0) (seq_peek_u8 plane offset (is_set a0)) }
 {
-    host::direct::iddesmar_seq_peek_u8(seq, p0, p1, p2, p3, picture, plane, offset, a0)
+    let memory = Lent {
+        p0,
+        p1,
+        p2,
+        p3,
+        picture,
+    };
+    host::direct::iddesmar_seq_peek_u8(seq, &memory, plane, offset, a0)
 }
 
 #[unsafe(no_mangle)]
@@ -62,7 +77,14 @@ pub extern "C" fn iddesmar_seq_gc_read_u8(
     ensures { outcome (answer_said result) (mem p0.now p1.now p2.now p3.now picture.now)
         ≡ direct_hosted seq (mem p0.now p1.now p2.now p3.now picture.now) (one 0) (seq_gc_read_u8 plane offset (is_set a0)) }
 {
-    host::direct::iddesmar_seq_gc_read_u8(seq, p0, p1, p2, p3, picture, plane, offset, a0)
+    let memory = Lent {
+        p0,
+        p1,
+        p2,
+        p3,
+        picture,
+    };
+    host::direct::iddesmar_seq_gc_read_u8(seq, &memory, plane, offset, a0)
 }
 
 #[unsafe(no_mangle)]
@@ -77,7 +99,14 @@ pub extern "C" fn iddesmar_seq_read_linear(
 ) -> Answer
     ensures { outcome (pixel_answer_said result) (mem p0.now p1.now p2.now p3.now picture.now) ≡ direct_hosted seq (mem p0.now p1.now p2.now p3.now picture.now) (pixel 0) (seq_read_linear place) }
 {
-    host::direct::iddesmar_seq_read_linear(seq, p0, p1, p2, p3, picture, place)
+    let memory = Lent {
+        p0,
+        p1,
+        p2,
+        p3,
+        picture,
+    };
+    host::direct::iddesmar_seq_read_linear(seq, &memory, place)
 }
 
 #[unsafe(no_mangle)]
@@ -92,7 +121,14 @@ pub extern "C" fn iddesmar_seq_serialize_linear(
 ) -> Shown
     ensures { result ≡ shown_of (direct_hosted seq (mem p0.now p1.now p2.now p3.now picture.now) (part []) (seq_serialize_linear offset)).answer }
 {
-    host::direct::iddesmar_seq_serialize_linear(seq, p0, p1, p2, p3, picture, offset)
+    let memory = Lent {
+        p0,
+        p1,
+        p2,
+        p3,
+        picture,
+    };
+    host::direct::iddesmar_seq_serialize_linear(seq, &memory, offset)
 }
 
 #[unsafe(no_mangle)]
@@ -111,7 +147,14 @@ pub extern "C" fn iddesmar_seq_plane_set(
     ensures { StoredAs result (mem p0.new p1.new p2.new p3.new picture.new)
         (direct_hosted seq (mem p0.old p1.old p2.old p3.old picture.old) (changes 0 0 0 0) (seq_plane_set plane offset (is_set a0) byte)) }
 {
-    host::direct::iddesmar_seq_plane_set(seq, p0, p1, p2, p3, picture, plane, offset, a0, byte)
+    let mut memory = Lent {
+        p0,
+        p1,
+        p2,
+        p3,
+        picture,
+    };
+    host::direct::iddesmar_seq_plane_set(seq, &mut memory, plane, offset, a0, byte)
 }
 
 #[unsafe(no_mangle)]
@@ -130,7 +173,14 @@ pub extern "C" fn iddesmar_seq_plane_and(
     ensures { StoredAs result (mem p0.new p1.new p2.new p3.new picture.new)
         (direct_hosted seq (mem p0.old p1.old p2.old p3.old picture.old) (changes 0 0 0 0) (seq_plane_and plane offset (is_set a0) byte)) }
 {
-    host::direct::iddesmar_seq_plane_and(seq, p0, p1, p2, p3, picture, plane, offset, a0, byte)
+    let mut memory = Lent {
+        p0,
+        p1,
+        p2,
+        p3,
+        picture,
+    };
+    host::direct::iddesmar_seq_plane_and(seq, &mut memory, plane, offset, a0, byte)
 }
 
 #[unsafe(no_mangle)]
@@ -149,5 +199,12 @@ pub extern "C" fn iddesmar_seq_plane_or(
     ensures { StoredAs result (mem p0.new p1.new p2.new p3.new picture.new)
         (direct_hosted seq (mem p0.old p1.old p2.old p3.old picture.old) (changes 0 0 0 0) (seq_plane_or plane offset (is_set a0) byte)) }
 {
-    host::direct::iddesmar_seq_plane_or(seq, p0, p1, p2, p3, picture, plane, offset, a0, byte)
+    let mut memory = Lent {
+        p0,
+        p1,
+        p2,
+        p3,
+        picture,
+    };
+    host::direct::iddesmar_seq_plane_or(seq, &mut memory, plane, offset, a0, byte)
 }

@@ -8,6 +8,7 @@ ghost use Rattle.answers.specs.Answers.{answer_said, pixel_answer_said};
 ghost use Rattle.answers.specs.Wide.{shown_of, StoredAs};
 
 use answers::{Answer, Shown, Stored};
+use machine_types::Lent;
 
 #[unsafe(no_mangle)]
 pub extern "C" fn iddesmar_vram_read_u8(
@@ -21,7 +22,14 @@ pub extern "C" fn iddesmar_vram_read_u8(
 ) -> Answer
     ensures { outcome (answer_said result) (mem p0.now p1.now p2.now p3.now picture.now) ≡ vram_step (mem p0.now p1.now p2.now p3.now picture.now) (read_u8 plane offset) }
 {
-    host::planes::iddesmar_vram_read_u8(p0, p1, p2, p3, picture, plane, offset)
+    let memory = Lent {
+        p0,
+        p1,
+        p2,
+        p3,
+        picture,
+    };
+    host::planes::iddesmar_vram_read_u8(&memory, plane, offset)
 }
 
 #[unsafe(no_mangle)]
@@ -36,7 +44,14 @@ pub extern "C" fn iddesmar_vram_peek_u8(
 ) -> Answer
     ensures { outcome (answer_said result) (mem p0.now p1.now p2.now p3.now picture.now) ≡ vram_step (mem p0.now p1.now p2.now p3.now picture.now) (peek_u8 plane offset) }
 {
-    host::planes::iddesmar_vram_peek_u8(p0, p1, p2, p3, picture, plane, offset)
+    let memory = Lent {
+        p0,
+        p1,
+        p2,
+        p3,
+        picture,
+    };
+    host::planes::iddesmar_vram_peek_u8(&memory, plane, offset)
 }
 
 #[unsafe(no_mangle)]
@@ -50,7 +65,14 @@ pub extern "C" fn iddesmar_vram_read_glyph(
 ) -> Answer
     ensures { outcome (answer_said result) (mem p0.now p1.now p2.now p3.now picture.now) ≡ vram_step (mem p0.now p1.now p2.now p3.now picture.now) (read_glyph offset) }
 {
-    host::planes::iddesmar_vram_read_glyph(p0, p1, p2, p3, picture, offset)
+    let memory = Lent {
+        p0,
+        p1,
+        p2,
+        p3,
+        picture,
+    };
+    host::planes::iddesmar_vram_read_glyph(&memory, offset)
 }
 
 #[unsafe(no_mangle)]
@@ -64,7 +86,14 @@ pub extern "C" fn iddesmar_vram_read_linear(
 ) -> Answer
     ensures { outcome (pixel_answer_said result) (mem p0.now p1.now p2.now p3.now picture.now) ≡ vram_step (mem p0.now p1.now p2.now p3.now picture.now) (read_linear place) }
 {
-    host::planes::iddesmar_vram_read_linear(p0, p1, p2, p3, picture, place)
+    let memory = Lent {
+        p0,
+        p1,
+        p2,
+        p3,
+        picture,
+    };
+    host::planes::iddesmar_vram_read_linear(&memory, place)
 }
 
 #[unsafe(no_mangle)]
@@ -78,7 +107,14 @@ pub extern "C" fn iddesmar_vram_serialize_linear(
 ) -> Shown
     ensures { result ≡ shown_of (vram_step (mem p0.now p1.now p2.now p3.now picture.now) (serialize_linear offset)).answer }
 {
-    host::planes::iddesmar_vram_serialize_linear(p0, p1, p2, p3, picture, offset)
+    let memory = Lent {
+        p0,
+        p1,
+        p2,
+        p3,
+        picture,
+    };
+    host::planes::iddesmar_vram_serialize_linear(&memory, offset)
 }
 
 #[unsafe(no_mangle)]
@@ -94,7 +130,14 @@ pub extern "C" fn iddesmar_vram_write_u8(
 ) -> Stored
     ensures { StoredAs result (mem p0.new p1.new p2.new p3.new picture.new) (vram_step (mem p0.old p1.old p2.old p3.old picture.old) (write_u8 plane offset byte)) }
 {
-    host::planes::iddesmar_vram_write_u8(p0, p1, p2, p3, picture, plane, offset, byte)
+    let mut memory = Lent {
+        p0,
+        p1,
+        p2,
+        p3,
+        picture,
+    };
+    host::planes::iddesmar_vram_write_u8(&mut memory, plane, offset, byte)
 }
 
 #[unsafe(no_mangle)]
@@ -110,7 +153,14 @@ pub extern "C" fn iddesmar_vram_plane_set(
 ) -> Stored
     ensures { StoredAs result (mem p0.new p1.new p2.new p3.new picture.new) (vram_step (mem p0.old p1.old p2.old p3.old picture.old) (plane_set plane offset byte)) }
 {
-    host::planes::iddesmar_vram_plane_set(p0, p1, p2, p3, picture, plane, offset, byte)
+    let mut memory = Lent {
+        p0,
+        p1,
+        p2,
+        p3,
+        picture,
+    };
+    host::planes::iddesmar_vram_plane_set(&mut memory, plane, offset, byte)
 }
 
 #[unsafe(no_mangle)]
@@ -126,7 +176,14 @@ pub extern "C" fn iddesmar_vram_plane_and(
 ) -> Stored
     ensures { StoredAs result (mem p0.new p1.new p2.new p3.new picture.new) (vram_step (mem p0.old p1.old p2.old p3.old picture.old) (plane_and plane offset byte)) }
 {
-    host::planes::iddesmar_vram_plane_and(p0, p1, p2, p3, picture, plane, offset, byte)
+    let mut memory = Lent {
+        p0,
+        p1,
+        p2,
+        p3,
+        picture,
+    };
+    host::planes::iddesmar_vram_plane_and(&mut memory, plane, offset, byte)
 }
 
 #[unsafe(no_mangle)]
@@ -142,7 +199,14 @@ pub extern "C" fn iddesmar_vram_plane_or(
 ) -> Stored
     ensures { StoredAs result (mem p0.new p1.new p2.new p3.new picture.new) (vram_step (mem p0.old p1.old p2.old p3.old picture.old) (plane_or plane offset byte)) }
 {
-    host::planes::iddesmar_vram_plane_or(p0, p1, p2, p3, picture, plane, offset, byte)
+    let mut memory = Lent {
+        p0,
+        p1,
+        p2,
+        p3,
+        picture,
+    };
+    host::planes::iddesmar_vram_plane_or(&mut memory, plane, offset, byte)
 }
 
 #[unsafe(no_mangle)]
@@ -156,5 +220,12 @@ pub extern "C" fn iddesmar_vram_deplane(
 ) -> Answer
     ensures { outcome (answer_said result) (mem p0.now p1.now p2.now p3.now picture.new) ≡ vram_step (mem p0.now p1.now p2.now p3.now picture.old) (remakes offset) }
 {
-    host::planes::iddesmar_vram_deplane(p0, p1, p2, p3, picture, offset)
+    let mut memory = Lent {
+        p0,
+        p1,
+        p2,
+        p3,
+        picture,
+    };
+    host::planes::iddesmar_vram_deplane(&mut memory, offset)
 }

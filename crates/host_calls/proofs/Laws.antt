@@ -1,99 +1,67 @@
 -- What the host's proofs cite: a call on records that are known, or not, and what a write leaves as it was.
-use Prim.Native.Nat.{ℕ, zero, suc, ◌+◌, ◌/◌, ◌%◌, ◌^◌, ◌<◌}
-use native.Mathlib.Omega.{arith}
-use mathlib.Core.Logic.{◌≢◌}
+use Prim.Native.Nat.{ℕ, zero, suc}
 use mathlib.Core.Path.{◌≡◌, refl, sym, ap, ap₂, subst, ◌∙◌}
 use mathlib.Core.Bool.{Bool, true, false}
-use mathlib.Core.List.{List, [], ◌∷◌}
-use lib.Bits.{bit_and, and_mask}
-use lib.ListN.{get_or}
-use Rattle.bits.specs.Bit.{field}
+use mathlib.Core.List.{List}
+use Rattle.std.specs.Prelude.{Result, Ok, Err}
+use Rattle.bits.specs.Bit.{pick}
 use Rattle.machine_types.specs.declared.gc.GraphicsController.{GraphicsController}
-use Rattle.machine_types.specs.declared.gc.GraphicsRegisters.{GraphicsRegisters}
-use Rattle.machine_types.specs.declared.gc.ReadMode.TheVariants.{ReadSelectedPlane, ReadComparedPlanes}
+use Rattle.machine_types.specs.declared.answer.Refusal.{Refusal}
+use Rattle.machine_types.specs.declared.answer.Refusal.TheVariants.{State}
+use Rattle.machine_types.specs.declared.gc.GraphicsRegister.{GraphicsRegister}
+use Rattle.machine_types.specs.declared.gc.GraphicsRegister.TheVariants.{SetReset, EnableSetReset, ColorCompare, DataRotate, ReadMapSelect, Mode, Miscellaneous, ColorDontCare, BitMask}
+use Rattle.machine_types.specs.declared.gc.ShiftMode.{ShiftMode}
 use Rattle.machine_types.specs.declared.gc.WriteMode.{WriteMode}
-use Rattle.machine_types.specs.declared.gc.WriteMode.TheVariants.{Mode0, Mode1, Mode2, Mode3}
 use Rattle.machine_types.specs.declared.seq.Sequencer.{Sequencer}
 use Rattle.machine.specs.Memory.{Memory, shape}
-use Rattle.machine.specs.Answers.{Value, Said, said, Outcome, outcome, answered}
-use Rattle.machine.specs.Graphics.{gc_of, read_mode, write_mode}
+use Rattle.machine.specs.Answers.{Value, Said, said, shown, shown_said, Outcome, outcome, answered}
+use Rattle.machine.specs.Graphics.{gc_of, data_of, register_number, read_mode, write_mode}
 use Rattle.machine.specs.Address.{offset}
 use Rattle.machine.specs.Deeds.{latches_after, memory_after, value_of, perform}
-use Rattle.machine.specs.Calls.{SequencerCall, DirectCall, GraphicsCall, CpuCall, direct_plan, gc_number_of, gc_next, gc_write_data, cpu_read, cpu_write, CpuPlan, cpu_plan, write_deed}
+use Rattle.machine.specs.Calls.{DirectCall, GraphicsCall, CpuCall, direct_plan, gc_number_of, gc_next, gc_write_data, cpu_read, cpu_write, CpuPlan, cpu_plan, write_deed}
 use Rattle.machine.specs.Calls.{counted, read_counter, write_counter, refused_counter, refusal_counter}
-use Rattle.machine.specs.Step.{Device, device, lifted, cpu_after, cpu_refused, cpu_perform, sequencer_step, direct_step, graphics_step, cpu_step}
+use Rattle.machine.specs.Step.{Device, device, lifted, cpu_after, cpu_refused, cpu_perform, direct_step, graphics_step, cpu_step}
 use Rattle.answers.specs.declared.wide.Shown.{Shown}
 use Rattle.answers.specs.declared.wide.Stored.{Stored}
-use Rattle.answers.specs.Wide.{stored_of, StoredAs}
+use Rattle.answers.specs.Wide.{in_numbers, stored_of, StoredAs}
 use Rattle.host_records.specs.declared.record.ControllerRecord.{ControllerRecord}
 use Rattle.host_records.specs.declared.record.SequencerRecord.{SequencerRecord}
-use Rattle.host_records.specs.Records.{known_gc, known_seq, known_both, controller_of, controller_record_of, sequencer_of, sequencer_record_of, stats_of, stats_record_of, left_by, left_to}
+use Rattle.host_records.specs.Records.{known_gc, known_both, controller_of, controller_record_of, sequencer_of, stats_of, stats_record_of, left_by, left_to}
 use Rattle.host_records.specs.Records.{with_stats, with_latches, with_count, counter_of, with_register, register_at, data_register, data_value}
-use Rattle.host_records.proofs.Laws.{record-back, known-gc, left-lifted, data-stored, register-kept}
-use Rattle.host_calls.specs.Hosted.{held, held_of, sequencer_hosted, direct_hosted, graphics_hosted, cpu_hosted}
+use Rattle.host_records.proofs.Laws.{record_back, known-gc, left-lifted, data-stored, register-kept}
+use Rattle.host_calls.specs.Hosted.{held, held_of, graphics_hosted, cpu_hosted}
 
--- what a test of a record says
-pub unknown-of : {b k : Bool} → b ≡ false → b ≡ k → false ≡ k
-unknown-of h e = sym h ∙ e
-
-pub known_of : {b k : Bool} → b ≡ true → b ≡ k → true ≡ k
-known_of h e = sym h ∙ e
-
--- ---- calls on the sequencer's record
-
-module _ (s : SequencerRecord) (v : Value) (c : SequencerCall) where
-  pub seq-unknown : false ≡ known_seq s → (a : Said) → a ≡ said 6 v → outcome a s ≡ sequencer_hosted s v c
-  unfolding sequencer_hosted
-  seq-unknown e a f = rw (← e, f)
-
-  pub seq-known : true ≡ known_seq s → (s' : Sequencer) → s' ≡ sequencer_of s → (a : Said) (n : Sequencer) (o : Outcome SequencerRecord) → o ≡ left_to sequencer_record_of (outcome a n) s
-      → outcome a n ≡ sequencer_step s' c → o ≡ sequencer_hosted s v c
-  unfolding sequencer_hosted
-  seq-known e s' j a n o f p = rw (← e, f, ← j) (ap (λ (o : Outcome Sequencer). left_to sequencer_record_of o s) p)
-
-  -- a call that only asks is handed the record by value: its answer is all that is said
-  pub asked-unknown : false ≡ known_seq s → (a : Said) → a ≡ said 6 v → a ≡ (sequencer_hosted s v c).answer
-  asked-unknown e a f = ap (λ (o : Outcome SequencerRecord). o.answer) (seq-unknown e a f)
-
-  pub asked-known : true ≡ known_seq s → (s' : Sequencer) → s' ≡ sequencer_of s → (a b : Said) → b ≡ a → outcome a s' ≡ sequencer_step s' c → b ≡ (sequencer_hosted s v c).answer
-  asked-known e s' j a b f p = f ∙ ap (λ (o : Outcome SequencerRecord). o.answer) (seq-known e s' j a s' (left_to sequencer_record_of (outcome a s') s) refl p)
+-- what a record says that is meant
+pub meant_of : {T : Type 0} (b : Bool) (v x : T) (r : Result T Refusal) → r ≡ pick b (Ok v) (Err State) → r ≡ Ok x → (true ≡ b) × (x ≡ v)
+meant_of true v x r e f = (refl, cc)
+meant_of false v x r e f = absurd cc
 
 -- ---- calls on the sequencer's record and memory
 
-module _ (s : SequencerRecord) (m : Memory) (v : Value) (c : DirectCall) where
-  pub direct-unknown : false ≡ known_seq s → (a : Said) → a ≡ said 6 v → outcome a m ≡ direct_hosted s m v c
-  unfolding direct_hosted
-  direct-unknown e a f = rw (← e, f)
-
-  -- a refusal leaves the memory as handed in, so what is left is the machine's
-  direct-left : (s' : Sequencer) → direct_step s' m c ≡ left_to (λ (m : Memory). m) (direct_step s' m c) m
-  unfolding direct_step perform
-  direct-left s' = sym (left-lifted (λ (m : Memory). m) (direct_plan s' (shape m) c).number _ _ m m refl)
-
-  pub direct-known : true ≡ known_seq s → (s' : Sequencer) → s' ≡ sequencer_of s → (a b : Said) (m' : Memory) → b ≡ a → outcome a m' ≡ direct_step s' m c → outcome b m' ≡ direct_hosted s m v c
-  unfolding direct_hosted
-  direct-known e s' j a b m' f p = rw (← e, f, ← j) (p ∙ direct-left s')
+-- a refusal leaves the memory as handed in, so what is left is the machine's
+pub direct_left : (s : Sequencer) (m : Memory) (c : DirectCall) → left_to (λ (m : Memory). m) (direct_step s m c) m ≡ direct_step s m c
+unfolding direct_step perform
+direct_left s m c = left-lifted (λ (m : Memory). m) (direct_plan s (shape m) c).number _ _ m m refl
 
 -- ---- calls on the controller's record
 
 module _ (g : ControllerRecord) (v : Value) (c : GraphicsCall) where
-  pub graphics-unknown : false ≡ known_gc g → (a : Said) → a ≡ said 6 v → outcome a g ≡ graphics_hosted g v c
-  unfolding graphics_hosted
-  graphics-unknown e a f = rw (← e, f)
-
   -- a refusal leaves the controller that the host's record means, so what is left is the machine's
-  graphics-left : true ≡ known_gc g → lifted (controller_record_of g.spare) (graphics_step (controller_of g) c) ≡ left_to (controller_record_of g.spare) (graphics_step (controller_of g) c) g
+  graphics-left : true ≡ known_gc g → left_to (controller_record_of g.spare) (graphics_step (controller_of g) c) g ≡ lifted (controller_record_of g.spare) (graphics_step (controller_of g) c)
   unfolding graphics_step
-  graphics-left e = sym (left-lifted (controller_record_of g.spare) (gc_number_of (controller_of g).registers c) _ _ (controller_of g) g (record-back g e))
+  graphics-left e = left-lifted (controller_record_of g.spare) (gc_number_of (controller_of g).registers c) _ _ (controller_of g) g (record_back g e)
 
-  pub graphics-known : true ≡ known_gc g → (g' : GraphicsController) → g' ≡ controller_of g → (a : Said) (n : GraphicsController) (o : Outcome ControllerRecord)
-      → o ≡ lifted (controller_record_of g.spare) (outcome a n)
-      → outcome a n ≡ graphics_step g' c → o ≡ graphics_hosted g v c
+  pub graphics-known : true ≡ known_gc g → (a : Said) (n : GraphicsController) (o : Outcome ControllerRecord) → o ≡ lifted (controller_record_of g.spare) (outcome a n)
+      → outcome a n ≡ graphics_step (controller_of g) c → o ≡ graphics_hosted g v c
   unfolding graphics_hosted
-  graphics-known e g' i a n o f p = rw (← e, f) (ap (lifted (controller_record_of g.spare)) (p ∙ ap (λ (q : GraphicsController). graphics_step q c) i) ∙ graphics-left e)
+  graphics-known e a n o f p = rw (← e, f) (ap (lifted (controller_record_of g.spare)) p ∙ sym (graphics-left e))
 
-  pub graphics-asked : true ≡ known_gc g → (g' : GraphicsController) → g' ≡ controller_of g → (a b : Said) → b ≡ a → outcome a g' ≡ graphics_step g' c → outcome b g ≡ graphics_hosted g v c
-  graphics-asked e g' i a b f p = graphics-known e g' i a g' (outcome b g) (ap₂ outcome f (sym (ap (controller_record_of g.spare) i ∙ record-back g e))) p
+  -- of a record that is meant and only asked
+  pub graphics-asked : (q : GraphicsController) (r : Result GraphicsController Refusal) → r ≡ pick (known_gc g) (Ok (controller_of g)) (Err State) → r ≡ Ok q
+      → (a b : Said) → b ≡ a → outcome a q ≡ graphics_step q c → outcome b g ≡ graphics_hosted g v c
+  graphics-asked q r e f a b h p =
+      let m = meant_of (known_gc g) (controller_of g) q r e f in
+      graphics-known m.0 a (controller_of g) (outcome b g) (ap₂ outcome h (sym (record_back g m.0))) (rw (← m.1) p)
 
 -- ---- data go to one register
 
@@ -107,61 +75,72 @@ stored-by : (n : ℕ) (g : ControllerRecord) (y : ℕ) → with_register (data_r
 stored-by zero g y = refl
 stored-by (suc n) g y = refl
 
-stored-none : (n : ℕ) (g : ControllerRecord) (y : ℕ) → n ≢ 0 → (9 ≡ data_register n g) × (0 ≡ data_value n g y)
-stored-none zero g y h = absurd (h refl)
-stored-none (suc n) g y h = (refl, refl)
+-- a register of the machine's, as a host keeps it
+kept-at : (x : ℕ) (n : GraphicsController) (q : GraphicsRegister) → data_of q n.registers ≡ register_at (register_number q) (controller_record_of x n)
+unfolding data_of
+kept-at x n SetReset = refl
+kept-at x n EnableSetReset = refl
+kept-at x n ColorCompare = refl
+kept-at x n DataRotate = refl
+kept-at x n ReadMapSelect = refl
+kept-at x n Mode = refl
+kept-at x n Miscellaneous = refl
+kept-at x n ColorDontCare = refl
+kept-at x n BitMask = refl
 
 -- a register and its value are what a data write stores, beside its answer
 abbrev Stores : ControllerRecord → Value → ℕ → Said → ℕ → ℕ → Type 0
 Stores g v y b k x = (outcome b (with_register k x g) ≡ graphics_hosted g v (gc_write_data y)) × (k ≡ data_register b.number g) × (x ≡ data_value b.number g y)
 
-pub data-unknown : (g : ControllerRecord) (v : Value) (y : ℕ) → false ≡ known_gc g → (b : Said) → b ≡ said 6 v → Stores g v y b 9 0
-data-unknown g v y e b f = (graphics-unknown g v (gc_write_data y) e b f, rw f, rw f)
+module _ (g : ControllerRecord) (v : Value) (y : ℕ) (known : true ≡ known_gc g) (b : Said) (n : GraphicsController) (p : outcome b n ≡ graphics_step (controller_of g) (gc_write_data y)) where
+  -- what a host is left with
+  abbrev kept : ControllerRecord
+  kept = controller_record_of g.spare n
 
-module _ (g : ControllerRecord) (v : Value) (y : ℕ) (known : true ≡ known_gc g) (b : Said) (h : ControllerRecord) (p : outcome b h ≡ graphics_hosted g v (gc_write_data y)) where
-  data-left : h ≡ left_by b.number (with_register g.register_selected (data_value 0 g y) g) g
+  hosted-so : outcome b kept ≡ graphics_hosted g v (gc_write_data y)
+  hosted-so = graphics-known g v (gc_write_data y) known b n (outcome b kept) refl p
+
+  data-left : kept ≡ left_by b.number (with_register g.register_selected (data_value 0 g y) g) g
   unfolding graphics_hosted graphics_step gc_next
   data-left =
-      left-of (controller_record_of g.spare) (gc_number_of (controller_of g).registers (gc_write_data y)) _ (gc_next (controller_of g) (gc_write_data y)) (controller_of g) g b h (p ∙ left)
+      left-of (controller_record_of g.spare) (gc_number_of (controller_of g).registers (gc_write_data y)) _ (gc_next (controller_of g) (gc_write_data y)) (controller_of g) g b kept (hosted-so ∙ left)
       ∙ ap (λ (k : ControllerRecord). left_by b.number k g) (data-stored g y known)
     where
       left : graphics_hosted g v (gc_write_data y) ≡ left_to (controller_record_of g.spare) (graphics_step (controller_of g) (gc_write_data y)) g
       left = rw (← known)
 
   stores : (k x : ℕ) → k ≡ data_register b.number g → x ≡ data_value b.number g y → Stores g v y b k x
-  stores k x e f = (ap₂ (λ (k x : ℕ). outcome b (with_register k x g)) e f ∙ ap (outcome b) (stored-by b.number g y ∙ sym data-left) ∙ p, e, f)
+  stores k x e f = (ap₂ (λ (k x : ℕ). outcome b (with_register k x g)) e f ∙ ap (outcome b) (stored-by b.number g y ∙ sym data-left) ∙ hosted-so, e, f)
 
-  pub data-refused : b.number ≢ 0 → Stores g v y b 9 0
-  data-refused n = let none = stored-none b.number g y n in stores 9 0 none.0 none.1
-
-  pub data-done : b.number ≡ 0 → (x : ℕ) → x ≡ register_at g.register_selected h → Stores g v y b g.register_selected x
-  data-done n x e = stores g.register_selected x (rw n) (e ∙ value)
+  -- the selected register's number is as it was, and its value what the register keeps of the byte
+  pub data-done : b.number ≡ 0 → let q = n.registers.register_selected in Stores g v y b (register_number q) (data_of q n.registers)
+  data-done z = stores (register_number n.registers.register_selected) (data_of n.registers.register_selected n.registers) (number ∙ rw z) (value ∙ rw z)
     where
-      value : register_at g.register_selected h ≡ data_value b.number g y
-      value =
-          ap (register_at g.register_selected) (data-left ∙ ap (λ (n : ℕ). left_by n (with_register g.register_selected (data_value 0 g y) g) g) n)
-          ∙ register-kept g y known ∙ ap (λ (n : ℕ). data_value n g y) (sym n)
+      after : kept ≡ with_register g.register_selected (data_value 0 g y) g
+      after = data-left ∙ ap (λ (z : ℕ). left_by z (with_register g.register_selected (data_value 0 g y) g) g) z
+
+      number : register_number n.registers.register_selected ≡ g.register_selected
+      number = ap (λ (h : ControllerRecord). h.register_selected) after
+
+      value : data_of n.registers.register_selected n.registers ≡ data_value 0 g y
+      value = kept-at g.spare n n.registers.register_selected ∙ ap₂ register_at number after ∙ register-kept g y known
 
 -- ---- calls on both records and memory
 
 module _ (g : ControllerRecord) (s : SequencerRecord) (m : Memory) (v : Value) (c : CpuCall) where
-  pub cpu-unknown : false ≡ known_both g s → (a : Said) (h : ControllerRecord) → a ≡ said 6 v → h ≡ g → outcome a (held h m) ≡ cpu_hosted g s m v c
+  pub cpu-known : true ≡ known_both g s → (a : Said) (n : GraphicsController) (h : ControllerRecord) (m' : Memory) → h ≡ controller_record_of g.spare n
+      → outcome a (device n m') ≡ cpu_step (controller_of g) (sequencer_of s) m c → outcome a (held h m') ≡ cpu_hosted g s m v c
   unfolding cpu_hosted
-  cpu-unknown e a h f k = rw (← e, f, k)
-
-  pub cpu-known : true ≡ known_both g s → (g' : GraphicsController) (s' : Sequencer) → g' ≡ controller_of g → s' ≡ sequencer_of s
-      → (a b : Said) (n : GraphicsController) (h : ControllerRecord) (m' : Memory) → b ≡ a → h ≡ controller_record_of g.spare n
-      → outcome a (device n m') ≡ cpu_step g' s' m c → outcome b (held h m') ≡ cpu_hosted g s m v c
-  unfolding cpu_hosted
-  cpu-known e g' s' i j a b n h m' f k p = rw (← e, f, k) (ap (lifted (held_of g.spare)) (p ∙ ap₂ (λ (q : GraphicsController) (t : Sequencer). cpu_step q t m c) i j))
-
-  pub cpu-asked : true ≡ known_both g s → (g' : GraphicsController) (s' : Sequencer) → g' ≡ controller_of g → s' ≡ sequencer_of s → (a b : Said) → b ≡ a
-      → outcome a (device g' m) ≡ cpu_step g' s' m c → outcome b (held g m) ≡ cpu_hosted g s m v c
-  cpu-asked e g' s' i j a b f p = cpu-known e g' s' i j a b g' g m f (sym (ap (controller_record_of g.spare) i ∙ record-back g (known-gc g s e))) p
+  cpu-known e a n h m' k p = rw (← e, k) (ap (lifted (held_of g.spare)) p)
 
 -- the answer of a show, by value: of an older one, of one that serves every shift mode
 pub shown-by : {S : Type 0} (by : Said → Shown) (a : Said) (t : S) (o : Outcome S) (r : Shown) → r ≡ by a → outcome a t ≡ o → r ≡ by o.answer
 shown-by {S = S} by a t o r f p = f ∙ ap (λ (o : Outcome S). by o.answer) p
+
+-- a show's number and pixels, handed on in numbers, are what it said
+pub shown-so : {t : Said} {d d' : ShiftMode} {y : Shown} (x : Result (List ℕ) Refusal) → t ≡ said y.number (shown d y.pixels) → y ≡ in_numbers x → d ≡ d' → t ≡ shown_said d' x
+shown-so (Ok l) e f g = rw (e, f, g)
+shown-so (Err r) e f g = rw (e, f, g)
 
 -- the answer of a store, by value, and what it leaves
 pub stored-as : {S : Type 0} (a : Said) (t : S) (o : Outcome S) (r : Stored) → r ≡ stored_of a → outcome a t ≡ o → StoredAs r t o
@@ -210,17 +189,14 @@ plan-counts a g m e = rw e (counts-either g a.counter a.ask.number _ (latches_af
 left_back : (g : ControllerRecord) → true ≡ known_gc g → (k : ℕ) (l : List ℕ)
     → controller_record_of g.spare (gc_of (controller_of g).registers (counted k (controller_of g).stats) l) ≡ with_count k (with_latches l g)
 unfolding counted
-left_back g e k l = ap (λ (h : ControllerRecord). with_stats (stats_record_of (counted k (stats_of g.stats))) (with_latches l h)) (record-back g e)
+left_back g e k l = ap (λ (h : ControllerRecord). with_stats (stats_record_of (counted k (stats_of g.stats))) (with_latches l h)) (record_back g e)
 
 module _ (g : ControllerRecord) (s : SequencerRecord) (m : Memory) (v : Value) (c : CpuCall) (own : ℕ) where
-  cpu-counted : Counts (controller_of g) own (cpu_step (controller_of g) (sequencer_of s) m c) → true ≡ known_both g s → (g' : GraphicsController) (s' : Sequencer) → g' ≡ controller_of g
-      → s' ≡ sequencer_of s → (a : Said) (n : GraphicsController) (m' : Memory) → outcome a (device n m') ≡ cpu_step g' s' m c
+  cpu-counted : Counts (controller_of g) own (cpu_step (controller_of g) (sequencer_of s) m c) → true ≡ known_both g s → (a : Said) (n : GraphicsController) (m' : Memory)
+      → outcome a (device n m') ≡ cpu_step (controller_of g) (sequencer_of s) m c
       → outcome a (held (with_count (counter_of a.number own) (with_latches n.latches g)) m') ≡ cpu_hosted g s m v c
-  cpu-counted t e g' s' i j a n m' p =
-      cpu-known g s m v c e g' s' i j a a n _ m' refl (sym (ap (controller_record_of g.spare) same ∙ left_back g (known-gc g s e) (counter_of a.number own) n.latches)) p
-    where
-      same : Counts (controller_of g) own (outcome a (device n m'))
-      same = subst (Counts (controller_of g) own) (sym (p ∙ ap₂ (λ (q : GraphicsController) (t : Sequencer). cpu_step q t m c) i j)) t
+  cpu-counted t e a n m' p =
+      cpu-known g s m v c e a n _ m' (sym (ap (controller_record_of g.spare) (subst (Counts (controller_of g) own) (sym p) t) ∙ left_back g (known-gc g s e) (counter_of a.number own) n.latches)) p
 
 module _ (g : ControllerRecord) (s : SequencerRecord) (m : Memory) (x : ℕ) (page : Bool) where
   read-counts : Counts (controller_of g) (read_counter (read_mode (controller_of g).registers)) (cpu_step (controller_of g) (sequencer_of s) m (cpu_read x page))
@@ -231,44 +207,19 @@ module _ (g : ControllerRecord) (s : SequencerRecord) (m : Memory) (x : ℕ) (pa
   unfolding cpu_step cpu_plan
   write-counts y = plan-counts (cpu_plan (controller_of g).registers (sequencer_of s) (shape m) (cpu_write x page y)) (controller_of g) m refl
 
-module _ (g : ControllerRecord) (s : SequencerRecord) (m : Memory) (v : Value) (x : ℕ) (page : Bool) (known : true ≡ known_both g s) (g' : GraphicsController) (s' : Sequencer)
-    (i : g' ≡ controller_of g) (j : s' ≡ sequencer_of s) (n : GraphicsController) (m' : Memory) (k : ℕ) where
-  pub cpu-read : (a b : Said) → b ≡ a → k ≡ counter_of b.number (read_counter (read_mode (controller_of g).registers)) → outcome a (device n m') ≡ cpu_step g' s' m (cpu_read x page)
-      → outcome b (held (with_count k (with_latches n.latches g)) m') ≡ cpu_hosted g s m v (cpu_read x page)
-  cpu-read a b f h p = rw h (cpu-counted g s m v (cpu_read x page) _ (read-counts g s m x page) known g' s' i j b n m' (ap (λ (a : Said). outcome a (device n m')) f ∙ p))
+module _ (g : ControllerRecord) (s : SequencerRecord) (m : Memory) (v : Value) (x : ℕ) (page : Bool) (known : true ≡ known_both g s) (n : GraphicsController) (m' : Memory) (k : ℕ) where
+  pub cpu-read : (a : Said) → k ≡ counter_of a.number (read_counter (read_mode (controller_of g).registers))
+      → outcome a (device n m') ≡ cpu_step (controller_of g) (sequencer_of s) m (cpu_read x page)
+      → outcome a (held (with_count k (with_latches n.latches g)) m') ≡ cpu_hosted g s m v (cpu_read x page)
+  cpu-read a h p = rw h (cpu-counted g s m v (cpu_read x page) _ (read-counts g s m x page) known a n m' p)
 
   pub cpu-wrote : (y : ℕ) (a : Said) (r : Stored) → r ≡ stored_of a → k ≡ counter_of r.number (write_counter (write_mode (controller_of g).registers))
-      → outcome a (device n m') ≡ cpu_step g' s' m (cpu_write x page y) → StoredAs r (held (with_count k g) m') (cpu_hosted g s m v (cpu_write x page y))
+      → outcome a (device n m') ≡ cpu_step (controller_of g) (sequencer_of s) m (cpu_write x page y) → StoredAs r (held (with_count k g) m') (cpu_hosted g s m v (cpu_write x page y))
   cpu-wrote y a r f h p =
       let own = write_counter (write_mode (controller_of g).registers) in
       stored-as a (held (with_count k g) m') (cpu_hosted g s m v (cpu_write x page y)) r f
       (rw (h, f) (subst (λ (l : List ℕ). outcome a (held (with_count (counter_of a.number own) (with_latches l g)) m') ≡ cpu_hosted g s m v (cpu_write x page y)) same
-      (cpu-counted g s m v (cpu_write x page y) _ (write-counts g s m x page y) known g' s' i j a n m' p)))
+      (cpu-counted g s m v (cpu_write x page y) _ (write-counts g s m x page y) known a n m' p)))
     where
       same : n.latches ≡ g.latches
-      same = ap (λ (q : GraphicsController). q.latches) (subst (λ (o : Outcome Device). Kept g' o.next.gc) (sym p) (write_kept g' s' m x page y)) ∙ ap (λ (q : GraphicsController). q.latches) i
-
--- ---- the counter of an accepted access, as the code works it out
-
-four-modes : (x : ℕ) → x < 4 → x ≡ write_counter (get_or (Mode0 ∷ Mode1 ∷ Mode2 ∷ Mode3 ∷ []) x Mode0)
-four-modes zero h = refl
-four-modes (suc zero) h = refl
-four-modes (suc (suc zero)) h = refl
-four-modes (suc (suc (suc zero))) h = refl
-four-modes (suc (suc (suc (suc x)))) h = absurd (omega arith)
-
-two-modes : (x : ℕ) → x < 2 → 4 + x ≡ read_counter (get_or (ReadSelectedPlane ∷ ReadComparedPlanes ∷ []) x ReadSelectedPlane)
-two-modes zero h = refl
-two-modes (suc zero) h = refl
-two-modes (suc (suc x)) h = absurd (omega arith)
-
-pub write-own : (r : GraphicsRegisters) → bit_and r.mode 3 ≡ write_counter (write_mode r)
-unfolding write_mode field
-write-own r = let e : bit_and r.mode 3 ≡ r.mode / 2 ^ 0 % 2 ^ 2 = omega (arith, and_mask r.mode 2) in e ∙ four-modes (r.mode / 2 ^ 0 % 2 ^ 2) (omega arith)
-
-pub read-own : (r : GraphicsRegisters) → 4 + bit_and (r.mode / 2 ^ 3) 1 ≡ read_counter (read_mode r)
-unfolding read_mode field
-read-own r = let e : bit_and (r.mode / 2 ^ 3) 1 ≡ r.mode / 2 ^ 3 % 2 ^ 1 = and_mask (r.mode / 2 ^ 3) 1 in rw e (two-modes (r.mode / 2 ^ 3 % 2 ^ 1) (omega arith))
-
-pub read_fits : (x : ℕ) → 4 + bit_and x 1 < 2 ^ 8
-read_fits x = let e : bit_and x 1 ≡ x % 2 ^ 1 = and_mask x 1 in omega (arith, e)
+      same = ap (λ (q : GraphicsController). q.latches) (subst (λ (o : Outcome Device). Kept (controller_of g) o.next.gc) (sym p) (write_kept (controller_of g) (sequencer_of s) m x page y))

@@ -15,7 +15,7 @@ use Rattle.machine.proofs.Refusals.{refused-stays}
 use Rattle.host_records.specs.declared.record.ControllerRecord.{ControllerRecord}
 use Rattle.host_records.specs.declared.record.SequencerRecord.{SequencerRecord}
 use Rattle.host_records.specs.Records.{known_gc, known_both, controller_of, controller_record_of, sequencer_of}
-use Rattle.host_records.proofs.Laws.{record-back, known-gc}
+use Rattle.host_records.proofs.Laws.{record_back, known-gc}
 use Rattle.host_calls.specs.Hosted.{Held, held, held_of, with_one_more_refused, hosted, cpu_hosted, host, meant_by}
 
 -- what is left of a record and a memory, by whether the refusal is counted
@@ -34,8 +34,8 @@ module _ (g : ControllerRecord) (s : SequencerRecord) (m : Memory) where
   -- the machine's state that is left, as a host keeps it
   kept-as : true ≡ known_gc g → (t : Bool) → let a = meant_by (host g s m) in let b : State = pick t (with_gc a (one_more_refused a.gc)) a in
       held (controller_record_of g.spare b.gc) b.memory ≡ left_if t g m
-  kept-as e true = ap (λ (h : ControllerRecord). held (with_one_more_refused h) m) (record-back g e)
-  kept-as e false = ap (λ (h : ControllerRecord). held h m) (record-back g e)
+  kept-as e true = ap (λ (h : ControllerRecord). held (with_one_more_refused h) m) (record_back g e)
+  kept-as e false = ap (λ (h : ControllerRecord). held h m) (record_back g e)
 
   known-left : true ≡ known_both g s → (c : CpuCall) → let o = cpu_step (controller_of g) (sequencer_of s) m c in
       o.answer.number ≢ 0 → held_of g.spare o.next ≡ left_if (turns_away c o.answer.number) g m

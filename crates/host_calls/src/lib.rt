@@ -1,68 +1,69 @@
 // The calls that a host makes through a reference to a record, over its records and by value: the library puts back what they leave.
-#![tactic(auto)]
+#![tactic(auto, unfolding(crate::specs::Hosted::sequencer_hosted, crate::specs::Hosted::graphics_hosted, crate::specs::Hosted::cpu_hosted))]
 
-ghost use Rattle.std.specs.Prelude.{◌≡◌, []};
-ghost use Rattle.machine.specs.Memory.{mem};
+ghost use Rattle.std.specs.Prelude.{◌≡◌, [], Ok, Err};
+ghost use Rattle.bits.specs.Bit.{pick};
+ghost use Rattle.machine_types.specs.declared.answer.Refusal.TheVariants.{State};
+ghost use Rattle.machine_types.specs.Slices.{SameSlices};
+ghost use Rattle.machine.specs.Memory.{seen, lent};
 ghost use Rattle.machine.specs.Answers.{one, part, changes, shown, no_pixels, outcome};
 ghost use Rattle.machine.specs.Graphics.{read_mode, shift_mode, write_mode};
 ghost use Rattle.machine.specs.Calls.{read_counter, write_counter, cpu_read, cpu_peek, cpu_write, serialize, show_pixels, gc_reset, gc_write_address, gc_write_data, seq_write_address, seq_write_data};
 ghost use Rattle.machine.specs.Step.{lifted, graphics_step};
 ghost use Rattle.answers.specs.Answers.{answer_said};
 ghost use Rattle.answers.specs.Wide.{shown_of, pixels_shown, StoredAs};
-ghost use Rattle.host_records.specs.Records.{is_set, counter_of, with_count, with_latches, with_register, data_register, data_value, controller_of, controller_record_of};
+ghost use Rattle.host_records.specs.Records.{is_set, known_both, counter_of, counter_told, register_told, value_told, with_count, with_latches, with_register, data_register, data_value, controller_of, controller_record_of, sequencer_of};
 ghost use Rattle.host_calls.specs.Hosted.{held, cpu_hosted, graphics_hosted, sequencer_hosted};
 
-use answers::{
-    Answer, Shown, done, of_byte, of_part, of_shown, of_store, unknown, unknown_shown,
-    unknown_stored,
-};
-use graphics_controller::{cpu_peek_u8, cpu_read_u8, cpu_write_u8, show_pixels};
+use answers::{Answer, Shown, done, refused, unknown, unknown_shown, unknown_stored};
+use graphics_controller::{cpu_peek_u8, cpu_read_u8, cpu_write_u8};
+use host_records::counter::Counter;
 use host_records::left::{
-    ControllerAnswer, DataAnswer, ReadAnswer, SequencerAnswer, WriteAnswer, counter_of,
-    of_graphics_done, of_sequencer_done, register_of, unknown_controller, unknown_sequencer,
+    DataAnswer, ReadAnswer, SequencerAnswer, WriteAnswer, of_graphics_left, of_sequencer_left,
+    unknown_controller, unknown_sequencer,
 };
-use host_records::record::{
-    ControllerRecord, SequencerRecord, is_set, known, known_controller, known_sequencer,
-    of_controller, to_controller, to_sequencer,
+use host_records::record::{ControllerRecord, SequencerRecord, is_set};
+use machine_types::{
+    After, GraphicsController, LentToRead, LentToStore, PlaneOffset, Refusal, Sequencer,
 };
-use machine_types::PlaneOffset;
+
+// Both records as the machine has them; refusal 6 where a selected register is none.
+fn meant(
+    gc: ControllerRecord,
+    seq: SequencerRecord,
+) -> Result<(GraphicsController, Sequencer), Refusal>
+    ensures { result ≡ pick (known_both gc seq) (Ok (controller_of gc, sequencer_of seq)) (Err State) }
+{
+    Ok((gc.meant()?, seq.meant()?))
+}
 
 // A read: the answer, the latches, and which counter goes up. The record itself stays with the caller.
 pub fn read_of(
     gc: ControllerRecord,
     seq: SequencerRecord,
-    p0: &[u8],
-    p1: &[u8],
-    p2: &[u8],
-    p3: &[u8],
-    picture: &[u8],
+    memory: &LentToRead,
     address: usize,
     page: u8,
 ) -> ReadAnswer
-    ensures { (outcome (answer_said result.answer) (held (with_count result.counter (with_latches result.latches gc)) (mem p0.now p1.now p2.now p3.now picture.now))
-        ≡ cpu_hosted gc seq (mem p0.now p1.now p2.now p3.now picture.now) (one 0) (cpu_read address (is_set page)))
-        × (result.counter ≡ counter_of result.answer.number (read_counter (read_mode (controller_of gc).registers))) }
+    ensures { (outcome (answer_said result.answer) (held (with_count (counter_told result.counter) (with_latches result.latches gc)) (seen memory.now))
+        ≡ cpu_hosted gc seq (seen memory.now) (one 0) (cpu_read address (is_set page)))
+        × (counter_told result.counter ≡ counter_of result.answer.number (read_counter (read_mode (controller_of gc).registers))) }
 {
-    if !known(gc, seq) {
+    let Ok((controller, seq)) = meant(gc, seq) else {
         let latches = gc.latches;
         return ReadAnswer {
             answer: unknown(),
             latches,
-            counter: 7,
+            counter: None,
         };
-    }
-    let controller = to_controller(gc);
-    let seq = to_sequencer(seq);
-    let high = is_set(page);
-    let r = cpu_read_u8(controller, seq, p0, p1, p2, p3, picture, address, high);
-    let told = r.answer;
-    let answer = of_byte(told);
-    let next = r.gc;
-    let latches = next.latches;
+    };
+    let own = fields::gc::read_mode(controller.registers).into();
+    let read = cpu_read_u8(controller, seq, memory, address, is_set(page));
+    let latches = read.next.latches;
     ReadAnswer {
-        answer,
+        answer: read.answer.into(),
         latches,
-        counter: counter_of(answer.number, 4 + ((gc.mode >> 3) & 1)),
+        counter: Counter::of(read.answer, own),
     }
 }
 
@@ -70,201 +71,143 @@ pub fn read_of(
 pub fn write_of(
     gc: ControllerRecord,
     seq: SequencerRecord,
-    p0: &mut [u8],
-    p1: &mut [u8],
-    p2: &mut [u8],
-    p3: &mut [u8],
-    picture: &mut [u8],
+    memory: &mut LentToStore,
     address: usize,
     page: u8,
     byte: u8,
 ) -> WriteAnswer
-    ensures { StoredAs result.answer (held (with_count result.counter gc) (mem p0.new p1.new p2.new p3.new picture.new))
-        (cpu_hosted gc seq (mem p0.old p1.old p2.old p3.old picture.old) (changes 0 0 0 0) (cpu_write address (is_set page) byte))
-        × (result.counter ≡ counter_of result.answer.number (write_counter (write_mode (controller_of gc).registers))) }
+    ensures same_slices { SameSlices memory.old memory.new }
+    ensures does { StoredAs result.answer (held (with_count (counter_told result.counter) gc) (lent memory.new))
+        (cpu_hosted gc seq (lent memory.old) (changes 0 0 0 0) (cpu_write address (is_set page) byte)) }
+    ensures counts { counter_told result.counter ≡ counter_of result.answer.number (write_counter (write_mode (controller_of gc).registers)) }
 {
-    if !known(gc, seq) {
+    let Ok((controller, seq)) = meant(gc, seq) else {
         return WriteAnswer {
             answer: unknown_stored(),
-            counter: 7,
+            counter: None,
         };
-    }
-    let controller = to_controller(gc);
-    let seq = to_sequencer(seq);
-    let high = is_set(page);
-    let r = cpu_write_u8(
-        controller, seq, p0, p1, p2, p3, picture, address, high, byte,
-    );
-    let told = r.answer;
-    let answer = of_store(told);
+    };
+    let own = fields::gc::write_mode(controller.registers).into();
+    let written = cpu_write_u8(controller, seq, memory, address, is_set(page), byte);
     WriteAnswer {
-        answer,
-        counter: counter_of(answer.number, gc.mode & 3),
+        answer: written.answer.into(),
+        counter: Counter::of(written.answer, own),
     }
 }
 
 // Plane 0's byte, or under chain-four that of plane offset mod 4; nothing moves.
+#[tactic(auto, unfolding(crate::specs::Hosted::cpu_hosted), using(host_records::proofs::Laws::record_back))]
 pub fn peek_of(
     gc: ControllerRecord,
     seq: SequencerRecord,
-    p0: &[u8],
-    p1: &[u8],
-    p2: &[u8],
-    p3: &[u8],
-    picture: &[u8],
+    memory: &LentToRead,
     address: usize,
     page: u8,
 ) -> Answer
-    ensures { outcome (answer_said result) (held gc (mem p0.now p1.now p2.now p3.now picture.now))
-        ≡ cpu_hosted gc seq (mem p0.now p1.now p2.now p3.now picture.now) (one 0) (cpu_peek address (is_set page)) }
+    ensures { outcome (answer_said result) (held gc (seen memory.now))
+        ≡ cpu_hosted gc seq (seen memory.now) (one 0) (cpu_peek address (is_set page)) }
 {
-    if !known(gc, seq) {
+    let Ok((gc, seq)) = meant(gc, seq) else {
         return unknown();
-    }
-    let controller = to_controller(gc);
-    let seq = to_sequencer(seq);
-    let high = is_set(page);
-    let answer = cpu_peek_u8(controller, seq, p0, p1, p2, p3, picture, address, high);
-    of_byte(answer)
+    };
+    cpu_peek_u8(gc, seq, memory, address, is_set(page)).into()
 }
 
 // The eight pixels of an offset, by the older show: refused in two shift modes.
 pub fn serialize_of(
     gc: ControllerRecord,
     seq: SequencerRecord,
-    p0: &[u8],
-    p1: &[u8],
-    p2: &[u8],
-    p3: &[u8],
-    picture: &[u8],
+    memory: &LentToRead,
     offset: usize,
 ) -> Shown
-    ensures { result ≡ shown_of (cpu_hosted gc seq (mem p0.now p1.now p2.now p3.now picture.now) (part []) (serialize offset)).answer }
+    ensures { result ≡ shown_of (cpu_hosted gc seq (seen memory.now) (part []) (serialize offset)).answer }
 {
-    if !known(gc, seq) {
+    let Ok((gc, seq)) = meant(gc, seq) else {
         return unknown_shown();
-    }
-    let controller = to_controller(gc);
-    let seq = to_sequencer(seq);
-    let mut number = 0u8;
-    let part = graphics_controller::serialize(
-        controller,
-        seq,
-        p0,
-        p1,
-        p2,
-        p3,
-        picture,
-        PlaneOffset(offset),
-        &mut number,
-    );
-    of_part(number, part)
+    };
+    graphics_controller::serialize(gc, seq, memory, PlaneOffset(offset)).into()
 }
 
 // The eight pixels of an offset, in every shift mode.
 pub fn show_of(
     gc: ControllerRecord,
     seq: SequencerRecord,
-    p0: &[u8],
-    p1: &[u8],
-    p2: &[u8],
-    p3: &[u8],
-    picture: &[u8],
+    memory: &LentToRead,
     offset: usize,
 ) -> Shown
-    ensures { result ≡ pixels_shown (cpu_hosted gc seq (mem p0.now p1.now p2.now p3.now picture.now) (shown (shift_mode (controller_of gc).registers) no_pixels) (show_pixels offset)).answer }
+    ensures { result ≡ pixels_shown (cpu_hosted gc seq (seen memory.now) (shown (shift_mode (controller_of gc).registers) no_pixels) (show_pixels offset)).answer }
 {
-    if !known(gc, seq) {
+    let Ok((gc, seq)) = meant(gc, seq) else {
         return unknown_shown();
-    }
-    let controller = to_controller(gc);
-    let seq = to_sequencer(seq);
-    let offset = PlaneOffset(offset);
-    of_shown(show_pixels(controller, seq, p0, p1, p2, p3, picture, offset))
+    };
+    graphics_controller::show_pixels(gc, seq, memory, PlaneOffset(offset)).into()
 }
 
 // Any record is taken; the host's own byte stays.
-pub fn reset_of(gc: ControllerRecord) -> ControllerAnswer
-    ensures { outcome (answer_said result.answer) result.gc ≡ lifted (controller_record_of gc.spare) (graphics_step (controller_of gc) gc_reset) }
+pub fn reset_of(gc: ControllerRecord) -> After<ControllerRecord, Answer>
+    ensures { outcome (answer_said result.answer) result.next ≡ lifted (controller_record_of gc.spare) (graphics_step (controller_of gc) gc_reset) }
 {
-    let fresh = graphics_controller::reset(to_controller(gc));
-    ControllerAnswer {
+    let fresh = graphics_controller::reset(gc.into());
+    After {
         answer: done(),
-        gc: of_controller(fresh, gc.spare),
+        next: ControllerRecord::of(fresh, gc.spare),
     }
 }
 
-pub fn address_of(gc: ControllerRecord, byte: u8) -> ControllerAnswer
-    ensures { outcome (answer_said result.answer) result.gc ≡ graphics_hosted gc (one 0) (gc_write_address byte) }
+pub fn address_of(gc: ControllerRecord, byte: u8) -> After<ControllerRecord, Answer>
+    ensures { outcome (answer_said result.answer) result.next ≡ graphics_hosted gc (one 0) (gc_write_address byte) }
 {
-    if !known_controller(gc) {
+    let Ok(controller) = gc.meant() else {
         return unknown_controller(gc);
-    }
-    of_graphics_done(
+    };
+    of_graphics_left(
         gc.spare,
-        graphics_controller::write_address(to_controller(gc), byte),
+        graphics_controller::write_address(controller, byte),
     )
 }
 
-// Data go to the selected register: which one is stored comes back with its value, and none where the write is refused.
+// Data go to the selected register: it comes back with its value where it is stored, and none where the write is refused.
 pub fn data_of(gc: ControllerRecord, byte: u8) -> DataAnswer
-    ensures { (outcome (answer_said result.answer) (with_register result.register result.value gc) ≡ graphics_hosted gc (one 0) (gc_write_data byte))
-        × (result.register ≡ data_register result.answer.number gc) × (result.value ≡ data_value result.answer.number gc byte) }
+    ensures { (outcome (answer_said result.answer) (with_register (register_told result.stored) (value_told result.stored) gc) ≡ graphics_hosted gc (one 0) (gc_write_data byte))
+        × (register_told result.stored ≡ data_register result.answer.number gc) × (value_told result.stored ≡ data_value result.answer.number gc byte) }
 {
-    if !known_controller(gc) {
+    let Ok(controller) = gc.meant() else {
         return DataAnswer {
             answer: unknown(),
-            register: 9,
-            value: 0,
+            stored: None,
         };
-    }
-    let w = of_graphics_done(
-        gc.spare,
-        graphics_controller::write_data(to_controller(gc), byte),
-    );
-    let answer = w.answer;
-    if answer.number != 0 {
-        return DataAnswer {
-            answer,
-            register: 9,
-            value: 0,
-        };
-    }
-    let next = w.gc;
-    let register = gc.register_selected;
-    let value = register_of(
-        register,
-        next.set_reset,
-        next.enable_set_reset,
-        next.color_compare,
-        next.data_rotate,
-        next.read_map_select,
-        next.mode,
-        next.miscellaneous,
-        next.color_dont_care,
-        next.bitmask,
-    );
-    DataAnswer {
-        answer,
-        register,
-        value,
+    };
+    let left = graphics_controller::write_data(controller, byte);
+    match left.answer {
+        Ok(()) => {
+            let registers = left.next.registers;
+            let value = graphics_registers::data_of(registers);
+            DataAnswer {
+                answer: done(),
+                stored: Some((registers.register_selected, value)),
+            }
+        }
+        Err(refusal) => DataAnswer {
+            answer: refused(refusal),
+            stored: None,
+        },
     }
 }
 
 pub fn sequencer_address_of(seq: SequencerRecord, byte: u8) -> SequencerAnswer
     ensures { outcome (answer_said result.answer) result.seq ≡ sequencer_hosted seq (one 0) (seq_write_address byte) }
 {
-    if !known_sequencer(seq) {
+    let Ok(sequencer) = seq.meant() else {
         return unknown_sequencer(seq);
-    }
-    of_sequencer_done(seq, sequencer::write_address(to_sequencer(seq), byte))
+    };
+    of_sequencer_left(seq, sequencer::write_address(sequencer, byte))
 }
 
 pub fn sequencer_data_of(seq: SequencerRecord, byte: u8) -> SequencerAnswer
     ensures { outcome (answer_said result.answer) result.seq ≡ sequencer_hosted seq (one 0) (seq_write_data byte) }
 {
-    if !known_sequencer(seq) {
+    let Ok(sequencer) = seq.meant() else {
         return unknown_sequencer(seq);
-    }
-    of_sequencer_done(seq, sequencer::write_data(to_sequencer(seq), byte))
+    };
+    of_sequencer_left(seq, sequencer::write_data(sequencer, byte))
 }

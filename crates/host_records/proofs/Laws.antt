@@ -1,26 +1,20 @@
 -- What the records' proofs cite: registers by number and back, what a record means and back, what a number leaves.
 use Prim.Native.Nat.{ℕ, zero, suc, ◌≤◌}
 use native.Mathlib.Omega.{arith}
-use mathlib.Core.Logic.{◌≢◌}
 use mathlib.Core.Path.{◌≡◌, refl, sym, ap₂, ◌∙◌}
-use mathlib.Core.Bool.{Bool, true, false}
-use lib.Dec.{leb}
+use mathlib.Core.Bool.{Bool, true, false, not}
+use lib.Dec.{eqb, leb}
 use borrow.Author.Tests.{leb-true, ne_eqb}
-use Rattle.bits.specs.Bit.{bit_of, pick}
+use Rattle.bits.specs.Bit.{bit_of}
 use Rattle.machine_types.specs.declared.answer.Refusal.{Refusal}
 use Rattle.machine_types.specs.declared.answer.Refusal.TheVariants.{Memory, Window, Offset, Plane, Place, State, Damaged, Range, Shift, Room}
 use Rattle.machine_types.specs.declared.gc.GraphicsController.{GraphicsController}
 use Rattle.machine_types.specs.declared.gc.GraphicsRegister.{GraphicsRegister}
 use Rattle.machine_types.specs.declared.gc.GraphicsRegister.TheVariants.{SetReset, EnableSetReset, ColorCompare, DataRotate, ReadMapSelect, Mode, Miscellaneous, ColorDontCare, BitMask}
-use Rattle.machine_types.specs.declared.gc.ReadMode.{ReadMode}
-use Rattle.machine_types.specs.declared.gc.ReadMode.TheVariants.{ReadSelectedPlane, ReadComparedPlanes}
-use Rattle.machine_types.specs.declared.gc.WriteMode.{WriteMode}
-use Rattle.machine_types.specs.declared.gc.WriteMode.TheVariants.{Mode0, Mode1, Mode2, Mode3}
 use Rattle.machine_types.specs.declared.seq.Sequencer.{Sequencer}
 use Rattle.machine_types.specs.declared.seq.SequencerRegister.{SequencerRegister}
 use Rattle.machine_types.specs.declared.seq.SequencerRegister.TheVariants.{Reset, ClockingMode, MapMask, CharacterMapSelect, MemoryMode, Invalid}
 use Rattle.machine.specs.Answers.{refusal_number, Value, answered}
-use Rattle.machine.specs.Calls.{read_counter, write_counter, refused_counter, no_counter, is_counted}
 use Rattle.machine.specs.Graphics.{selects, register_number, keeps, with_data, gc_of}
 use Rattle.machine.specs.Sequencer.{selects_seq, seq_number}
 use Rattle.machine.specs.Step.{lifted}
@@ -28,7 +22,15 @@ use Rattle.machine.proofs.Laws.{both}
 use Rattle.host_records.specs.declared.record.ControllerRecord.{ControllerRecord}
 use Rattle.host_records.specs.declared.record.SequencerRecord.{SequencerRecord}
 use Rattle.host_records.specs.Records.{known_gc, known_seq, known_both, is_set, controller_of, controller_record_of, sequencer_of, sequencer_record_of, left_by, left_to}
-use Rattle.host_records.specs.Records.{with_count, counter_of, with_register, register_at}
+use Rattle.host_records.specs.Records.{with_register, register_at}
+
+-- ---- flags
+
+-- a flag by the code's test of it
+pub set_by_test : (n : ℕ) → not (eqb n 0) ≡ is_set n
+unfolding is_set
+set_by_test zero = refl
+set_by_test (suc n) = rw (ne_eqb (suc n) 0 (λ (e : suc n ≡ 0). omega (arith, e)))
 
 -- ---- registers by number
 
@@ -47,8 +49,8 @@ number-back (suc (suc (suc (suc (suc (suc (suc (suc zero)))))))) h = refl
 number-back (suc (suc (suc (suc (suc (suc (suc (suc (suc n))))))))) h = absurd (omega arith)
 
 -- a record of known number is kept as it is
-pub record-back : (g : ControllerRecord) → true ≡ known_gc g → controller_record_of g.spare (controller_of g) ≡ g
-record-back g e = rw (number-back g.register_selected (leb-true _ _ (sym e)))
+pub record_back : (g : ControllerRecord) → true ≡ known_gc g → controller_record_of g.spare (controller_of g) ≡ g
+record_back g e = rw (number-back g.register_selected (leb-true _ _ (sym e)))
 
 pub known-gc : (g : ControllerRecord) (s : SequencerRecord) → true ≡ known_both g s → true ≡ known_gc g
 known-gc g s e = sym (both (known_gc g) (known_seq s) (sym e)).0
@@ -141,33 +143,7 @@ pub left-lifted : {S T : Type 0} (f : S → T) (n : ℕ) (v : Value) (new old : 
 left-lifted f zero v new old kept e = refl
 left-lifted f (suc n) v new old kept e = rw (← e)
 
--- ---- which counter goes up
-
--- no other than the access's own and that of the refused
-pub no-count : (k n own : ℕ) → k ≡ counter_of n own → k ≢ own → k ≢ refused_counter → (g : ControllerRecord) → with_count k g ≡ g
-no-count k zero own e h j g = absurd (h e)
-no-count k (suc n) own e h j g = go (is_counted (suc n)) e
-  where
-    go : (b : Bool) → k ≡ pick b refused_counter no_counter → with_count k g ≡ g
-    go true e = absurd (j e)
-    go false e = rw e
-
-pub no_write : (k : ℕ) (w : WriteMode) → k ≢ 0 → k ≢ 1 → k ≢ 2 → k ≢ 3 → k ≢ write_counter w
-no_write k Mode0 a b c d = a
-no_write k Mode1 a b c d = b
-no_write k Mode2 a b c d = c
-no_write k Mode3 a b c d = d
-
-pub no_read : (k : ℕ) (r : ReadMode) → k ≢ 4 → k ≢ 5 → k ≢ read_counter r
-no_read k ReadSelectedPlane a b = a
-no_read k ReadComparedPlanes a b = b
-
 -- ---- which register is stored
-
--- none from 9 up
-pub no_register : (n v : ℕ) → n ≢ 0 → n ≢ 1 → n ≢ 2 → n ≢ 3 → n ≢ 4 → n ≢ 5 → n ≢ 6 → n ≢ 7 → n ≢ 8 → (g : ControllerRecord) → with_register n v g ≡ g
-no_register n v a b c d e f h i j g =
-    rw (ne_eqb n 0 a, ne_eqb n 1 b, ne_eqb n 2 c, ne_eqb n 3 d, ne_eqb n 4 e, ne_eqb n 5 f, ne_eqb n 6 h, ne_eqb n 7 i, ne_eqb n 8 j)
 
 -- the register of a number is the value that was stored there
 register-stored : (n v : ℕ) → n ≤ 8 → (g : ControllerRecord) → register_at n (with_register n v g) ≡ v
@@ -204,7 +180,7 @@ module _ (g : ControllerRecord) (y : ℕ) (e : true ≡ known_gc g) where
   pub data-stored : controller_record_of g.spare (gc_of (with_data y (controller_of g).registers) (controller_of g).stats (controller_of g).latches) ≡ with_register g.register_selected kept g
   data-stored =
       data-kept g.spare y (controller_of g) (controller_of g).registers.register_selected refl
-      ∙ ap₂ (λ (n : ℕ) (h : ControllerRecord). with_register n kept h) (number-back g.register_selected (leb-true _ _ (sym e))) (record-back g e)
+      ∙ ap₂ (λ (n : ℕ) (h : ControllerRecord). with_register n kept h) (number-back g.register_selected (leb-true _ _ (sym e))) (record_back g e)
 
   pub register-kept : register_at g.register_selected (with_register g.register_selected kept g) ≡ kept
   register-kept = register-stored g.register_selected kept (leb-true _ _ (sym e)) g

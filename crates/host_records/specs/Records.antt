@@ -1,15 +1,19 @@
 -- How a host's records, numbers alone, are read as the machine's, and the machine's as a host's.
-use Rattle.std.specs.Prelude.{ℕ, zero, suc, Bool, true, false, ◌&&◌, List, [], ◌∷◌, eqb, leb, get_or}
+use Rattle.std.specs.Prelude.{ℕ, zero, suc, Bool, true, false, ◌&&◌, List, [], ◌∷◌, eqb, leb, get_or, Option, None, Some, Result, Ok, Err}
 use Rattle.bits.specs.Bit.{bit_of, pick}
 use Rattle.machine_types.specs.declared.gc.GraphicsController.{GraphicsController}
 use Rattle.machine_types.specs.declared.gc.GraphicsControllerStats.{GraphicsControllerStats}
+use Rattle.machine_types.specs.declared.gc.GraphicsRegister.{GraphicsRegister}
 use Rattle.machine_types.specs.declared.gc.GraphicsRegister.TheVariants.{BitMask}
+use Rattle.machine_types.specs.declared.answer.Refusal.{Refusal}
 use Rattle.machine_types.specs.declared.seq.Sequencer.{Sequencer}
-use Rattle.machine.specs.Answers.{Outcome, outcome}
-use Rattle.machine.specs.Calls.{raised, refused_counter, refusal_counter}
+use Rattle.machine.specs.Answers.{Outcome, outcome, refusal_number}
+use Rattle.machine.specs.Calls.{raised, refused_counter, refusal_counter, no_counter}
 use Rattle.machine.specs.Graphics.{selects, register_number, keeps, gc_of}
 use Rattle.machine.specs.Sequencer.{selects_seq, seq_number}
 use Rattle.host_records.specs.declared.record.StatsRecord.{StatsRecord}
+use Rattle.host_records.specs.declared.counter.Counter.{Counter}
+use Rattle.host_records.specs.declared.counter.Counter.TheVariants.{Mode0Writes, Mode1Writes, Mode2Writes, Mode3Writes, Mode0Reads, Mode1Reads, RefusedAccesses}
 use Rattle.host_records.specs.declared.record.ControllerRecord.{ControllerRecord}
 use Rattle.host_records.specs.declared.record.SequencerRecord.{SequencerRecord}
 
@@ -168,6 +172,38 @@ register_at n g = get_or (first_eight g) n g.bitmask
 abbrev pub counter_of : ℕ → ℕ → ℕ
 counter_of zero own = own
 counter_of (suc n) own = refusal_counter (suc n) refused_counter
+
+-- ---- which counter goes up, and which register is stored, by number
+
+-- the counters' own order
+abbrev pub counter_number : Counter → ℕ
+counter_number Mode0Writes = 0
+counter_number Mode1Writes = 1
+counter_number Mode2Writes = 2
+counter_number Mode3Writes = 3
+counter_number Mode0Reads = 4
+counter_number Mode1Reads = 5
+counter_number RefusedAccesses = refused_counter
+
+-- 7 where none goes up
+abbrev pub counter_told : Option Counter → ℕ
+counter_told None = no_counter
+counter_told (Some k) = counter_number k
+
+-- 9 where none is stored
+abbrev pub register_told : Option (GraphicsRegister × ℕ) → ℕ
+register_told None = 9
+register_told (Some s) = register_number s.0
+
+-- its value, 0 where none is stored
+abbrev pub value_told : Option (GraphicsRegister × ℕ) → ℕ
+value_told None = 0
+value_told (Some s) = s.1
+
+-- an answer's number: 0, or its refusal's
+abbrev pub answer_number : {T : Type 0} → Result T Refusal → ℕ
+answer_number (Ok x) = 0
+answer_number (Err r) = refusal_number r
 
 -- the sequencer that a host's record of known number means
 abbrev pub sequencer_of : SequencerRecord → Sequencer

@@ -1,9 +1,8 @@
 // The calls of a list, made: each operation is one call of the port.
 #![tactic(auto)]
 
-pub mod asked;
-pub mod graphics_call;
-pub mod memory_call;
-mod reads;
-pub mod sequencer_call;
-mod stores;
+mod after;
+pub mod graphics_calls;
+pub mod memory;
+pub mod sequencer_calls;
+pub mod vram_calls;

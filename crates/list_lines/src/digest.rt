@@ -1,121 +1,107 @@
-// The whole state in a line: both records in full, a checksum of each plane and of the picture.
-use crate::print;
-use crate::print::numbers;
-use crate::said::bit;
-use machine_types::{GraphicsController, GraphicsControllerStats, GraphicsRegisters, Sequencer};
-use std::io::Stdout;
-use std::num::wrapping_add_u32;
+// The whole state: both records in full, and a checksum of each plane and of the picture.
+use machine_types::{GraphicsController, GraphicsRegisters, LentToRead, Sequencer};
+use std::fmt;
 
-fn widened(x: u8) -> u64 {
-    x as u64
-}
-
-fn count(x: u32) -> u64 {
-    x as u64
-}
-
-fn registers(r: GraphicsRegisters, out: &mut [u8; 512], at: usize) -> usize {
-    let selected = r.register_selected;
-    let list = [
-        widened(r.register_select_byte),
-        widened(fields::gc::register_number(selected)),
-        widened(r.set_reset),
-        widened(r.enable_set_reset),
-        widened(r.color_compare),
-        widened(r.data_rotate),
-        widened(r.read_map_select),
-        widened(r.mode),
-        widened(r.miscellaneous),
-        widened(r.color_dont_care),
-        widened(r.bitmask),
-    ];
-    numbers(out, at, &list)
-}
-
-fn sequencer(s: Sequencer, out: &mut [u8; 512], at: usize) -> usize {
-    let selected = s.register_selected;
-    let list = [
-        widened(s.address_byte),
-        widened(fields::seq::register_number(selected)),
-        widened(s.reset),
-        widened(s.clocking_mode),
-        widened(s.map_mask),
-        widened(s.character_map_select),
-        widened(s.memory_mode),
-        bit(s.clock_change_pending),
-        count(s.clock_divisor),
-        count(s.char_clock),
-    ];
-    numbers(out, at, &list)
-}
-
-fn latches(l: [u8; 4], out: &mut [u8; 512], at: usize) -> usize {
-    let list = [widened(l[0]), widened(l[1]), widened(l[2]), widened(l[3])];
-    numbers(out, at, &list)
-}
-
-fn stats(c: GraphicsControllerStats, out: &mut [u8; 512], at: usize) -> usize {
-    let list = [
-        count(c.mode_0_writes),
-        count(c.mode_1_writes),
-        count(c.mode_2_writes),
-        count(c.mode_3_writes),
-        count(c.mode_0_reads),
-        count(c.mode_1_reads),
-        count(c.refused_accesses),
-    ];
-    numbers(out, at, &list)
-}
-
-// Two sums of a slice's bytes: of the bytes, from 1 on, and of those sums, from 0 on.
-fn checksum(bytes: &[u8], out: &mut [u8; 512], at: usize) -> usize {
-    let mut first: u32 = 1;
-    let mut second: u32 = 0;
-    let mut i = 0;
-    while i < bytes.len() {
-        first = wrapping_add_u32(first, wide(bytes[i]));
-        second = wrapping_add_u32(second, first);
-        i += 1;
-    }
-    let next = print::number(out, at, count(first));
-    print::number(out, next, count(second))
-}
-
-fn wide(byte: u8) -> u32 {
-    byte as u32
-}
-
-// A digest's line from its answer on, up to the sums: 0 and 32 numbers.
-fn records(gc: GraphicsController, seq: Sequencer, out: &mut [u8; 512], at: usize) -> usize {
-    let kept = gc.registers;
-    let held = gc.latches;
-    let counts = gc.stats;
-    let mut next = print::number(out, at, 0);
-    next = registers(kept, out, next);
-    next = sequencer(seq, out, next);
-    next = latches(held, out, next);
-    stats(counts, out, next)
-}
-
-// The line of a digest, which is its list's call of this number.
-pub fn print(
-    to: Stdout,
-    number: u64,
+#[derive(Clone, Copy)]
+pub struct Digest {
     gc: GraphicsController,
     seq: Sequencer,
-    p0: &[u8],
-    p1: &[u8],
-    p2: &[u8],
-    p3: &[u8],
-    picture: &[u8],
-) {
-    let mut out = [0u8; 512];
-    let mut at = print::begin(&mut out, number, 0);
-    at = records(gc, seq, &mut out, at);
-    at = checksum(p0, &mut out, at);
-    at = checksum(p1, &mut out, at);
-    at = checksum(p2, &mut out, at);
-    at = checksum(p3, &mut out, at);
-    at = checksum(picture, &mut out, at);
-    print::end(to, &mut out, at);
+    // of planes 0 to 3 and of the picture
+    sums: [Sums; 5],
+}
+
+// Two sums of a slice's bytes modulo 2^32: of the bytes, from 1 on, and of those sums, from 0 on.
+#[derive(Clone, Copy)]
+struct Sums {
+    first: u32,
+    second: u32,
+}
+
+impl Digest {
+    pub fn of(gc: GraphicsController, seq: Sequencer, memory: &LentToRead) -> Self {
+        let sums = [
+            Sums::of(memory.p0),
+            Sums::of(memory.p1),
+            Sums::of(memory.p2),
+            Sums::of(memory.p3),
+            Sums::of(memory.picture),
+        ];
+        Digest { gc, seq, sums }
+    }
+}
+
+impl Sums {
+    fn of(bytes: &[u8]) -> Self {
+        let mut first: u32 = 1;
+        let mut second: u32 = 0;
+        for byte in bytes {
+            first = first.wrapping_add(u32::from(*byte));
+            second = second.wrapping_add(first);
+        }
+        Sums { first, second }
+    }
+}
+
+// 42 numbers, each after a blank.
+impl fmt::Display for Digest {
+    fn fmt<W: fmt::Write>(&self, f: &mut fmt::Formatter<W>) -> fmt::Result {
+        let gc = self.gc;
+        registers(f, gc.registers)?;
+        sequencer(f, self.seq)?;
+        numbers(f, &gc.latches)?;
+        let stats = gc.stats;
+        let counters = [
+            stats.mode_0_writes,
+            stats.mode_1_writes,
+            stats.mode_2_writes,
+            stats.mode_3_writes,
+            stats.mode_0_reads,
+            stats.mode_1_reads,
+            stats.refused_accesses,
+        ];
+        numbers(f, &counters)?;
+        for sums in self.sums {
+            numbers(f, &[sums.first, sums.second])?;
+        }
+        Ok(())
+    }
+}
+
+fn registers<W: fmt::Write>(f: &mut fmt::Formatter<W>, gc: GraphicsRegisters) -> fmt::Result {
+    let list = [
+        gc.register_select_byte,
+        fields::gc::register_number(gc.register_selected),
+        gc.set_reset,
+        gc.enable_set_reset,
+        gc.color_compare,
+        gc.data_rotate,
+        gc.read_map_select,
+        gc.mode,
+        gc.miscellaneous,
+        gc.color_dont_care,
+        gc.bitmask,
+    ];
+    numbers(f, &list)
+}
+
+fn sequencer<W: fmt::Write>(f: &mut fmt::Formatter<W>, seq: Sequencer) -> fmt::Result {
+    let list = [
+        seq.address_byte,
+        fields::seq::register_number(seq.register_selected),
+        seq.reset,
+        seq.clocking_mode,
+        seq.map_mask,
+        seq.character_map_select,
+        seq.memory_mode,
+        u8::from(seq.clock_change_pending),
+    ];
+    numbers(f, &list)?;
+    numbers(f, &[seq.clock_divisor, seq.char_clock])
+}
+
+fn numbers<N: fmt::Display, W: fmt::Write>(f: &mut fmt::Formatter<W>, list: &[N]) -> fmt::Result {
+    for number in list {
+        write!(f, " {number}")?;
+    }
+    Ok(())
 }

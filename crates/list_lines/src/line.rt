@@ -1,109 +1,99 @@
-// A line of a list: up to five decimal numbers, an operation and its arguments; '#' begins a comment. A line of more is no call, and is told as such.
-use std::num::wrapping_add_usize;
+// A line of a list: up to five decimal numbers, an operation and its arguments; '#' begins a comment.
+ghost use Rattle.std.specs.Prelude.{◌≡◌, ◌≢◌, None};
 
-// An operation's number and its arguments; those that it has not are 0.
+use crate::call::{Call, NoCall};
+
+// What a line says: its operation's number as it is given, and the call, or why it is none.
 #[derive(Clone, Copy)]
-pub struct Call {
+pub struct Listed {
     pub operation: usize,
-    pub first: usize,
-    pub second: usize,
-    pub third: usize,
-    pub fourth: usize,
+    pub call: Result<Call, NoCall>,
 }
 
+// What the next byte is part of.
+#[derive(Clone, Copy)]
+enum Within {
+    // nothing: a number may begin
+    Blank,
+    // a number, which is this so far
+    Number(usize),
+    Comment,
+}
+
+// A line as far as it is read.
 #[derive(Clone, Copy)]
 pub struct Line {
-    pub numbers: [usize; 5],
-    // how many numbers are complete
-    pub count: usize,
-    // whether a number is being read
-    pub open: bool,
-    pub comment: bool,
-    // whether it has more numbers than are kept
-    pub overlong: bool,
+    numbers: [usize; 5],
+    // how many of them are complete
+    count: usize,
+    // whether it has more than are kept
+    overlong: bool,
+    within: Within,
 }
 
 impl Line {
     pub fn new() -> Self {
         Line {
-            numbers: [0usize; 5],
+            numbers: [0; 5],
             count: 0,
-            open: false,
-            comment: false,
             overlong: false,
+            within: Within::Blank,
         }
     }
 
-    // One byte more. A newline begins a new line.
-    pub fn feed(mut self, b: u8) -> Self {
-        if b == b'\n' {
-            return Line::new();
+    // One byte more. A newline begins a new line, and tells what the old one said, where it had a number.
+    pub fn feed(&mut self, byte: u8) -> Option<Listed>
+        ensures { byte ≢ 10 → result ≡ None }
+    {
+        match (byte, self.within) {
+            (b'\n', _) => return self.ended(),
+            (_, Within::Comment) => {}
+            (b'#', _) => {
+                self.close();
+                self.within = Within::Comment;
+            }
+            (b'0'..=b'9', Within::Number(number)) => self.digit(number, byte - b'0'),
+            (b'0'..=b'9', Within::Blank) => self.digit(0, byte - b'0'),
+            _ => self.close(),
         }
-        if self.comment {
-            return self;
-        }
-        if b == b'#' {
-            self.comment = true;
-            return self.close();
-        }
-        if b < b'0' {
-            return self.close();
-        }
-        if b > b'9' {
-            return self.close();
-        }
-        let at = self.count;
-        if at >= 5 {
-            self.overlong = true;
-            return self;
-        }
-        let old = self.numbers[at];
-        self.numbers[at] = with_digit(old, b - b'0');
-        self.open = true;
-        self
+        None
+    }
+
+    // A number with one digit more, modulo 2^64.
+    fn digit(&mut self, number: usize, digit: u8) {
+        let next = number.wrapping_mul(10).wrapping_add(usize::from(digit));
+        self.within = Within::Number(next);
     }
 
     // What parts two numbers.
-    fn close(mut self) -> Self {
-        if self.open {
-            self.open = false;
+    fn close(&mut self) {
+        if let Within::Number(number) = self.within {
             if self.count < 5 {
-                self.count = self.count + 1;
+                self.numbers[self.count] = number;
+                self.count += 1;
+            } else {
+                self.overlong = true;
             }
         }
-        self
+        self.within = Within::Blank;
     }
 
-    pub fn call(self) -> Call {
-        let n = self.numbers;
-        Call {
-            operation: n[0],
-            first: n[1],
-            second: n[2],
-            third: n[3],
-            fourth: n[4],
+    fn ended(&mut self) -> Option<Listed> {
+        self.close();
+        let line = *self;
+        *self = Line::new();
+        if line.count == 0 {
+            return None;
         }
+        let numbers = line.numbers;
+        let call = if line.overlong {
+            Err(NoCall::Overlong)
+        } else {
+            Call::try_from(numbers)
+        };
+        Some(Listed {
+            operation: numbers[0],
+            call,
+        })
     }
-
-    // Whether this byte ends the line, and the line has a call.
-    pub fn is_call(self, b: u8) -> bool {
-        if b != b'\n' {
-            return false;
-        }
-        if self.open {
-            return true;
-        }
-        self.count > 0
-    }
-}
-
-// A number with one digit more, modulo 2^64: eight times and twice the number, and the digit.
-fn with_digit(number: usize, digit: u8) -> usize {
-    let ten_times = wrapping_add_usize(number << 3, number << 1);
-    wrapping_add_usize(ten_times, digit as usize)
-}
-
-// An argument as a byte: its low eight bits.
-pub fn low_byte(n: usize) -> u8 {
-    (n % 256) as u8
 }

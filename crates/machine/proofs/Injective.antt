@@ -1,41 +1,26 @@
 -- Each answer is told by its number and value: what is said of two answers is the same only where they are. By a way back for each kind of answer.
 use Prim.Native.Nat.{ℕ}
-use mathlib.Core.Path.{◌≡◌, refl, sym, ap, ap₂, ◌∙◌}
-use mathlib.Core.Bool.{true, false}
+use mathlib.Core.Path.{◌≡◌, refl, sym, ap, ◌∙◌}
+use mathlib.Core.Bool.{Bool, true, false}
 use mathlib.Core.List.{List, [], ◌∷◌}
 use lib.Dec.{eqb}
 use lib.ListN.{get_or}
-use Rattle.bits.specs.Bit.{is_one, pick}
+use Rattle.bits.specs.Bit.{bit_of, is_one, pick}
 use Rattle.machine_types.specs.declared.answer.Refusal.{Refusal}
 use Rattle.machine_types.specs.declared.answer.Refusal.TheVariants.{Memory, Window, Offset, Plane, Place, State, Damaged, Range, Shift, Room}
-use Rattle.machine_types.specs.declared.answer.ByteAnswer.{ByteAnswer}
-use Rattle.machine_types.specs.declared.answer.ByteAnswer.TheVariants.{Done as ByteDone, Refused as ByteRefused}
 use Rattle.machine_types.specs.declared.answer.Changed.{Changed}
-use Rattle.machine_types.specs.declared.answer.StoreAnswer.{StoreAnswer}
-use Rattle.machine_types.specs.declared.answer.StoreAnswer.TheVariants.{Done as StoreDone, Refused as StoreRefused}
-use Rattle.machine_types.specs.declared.answer.DoneAnswer.{DoneAnswer}
-use Rattle.machine_types.specs.declared.answer.DoneAnswer.TheVariants.{Done, Refused}
-use Rattle.machine_types.specs.declared.answer.FlagAnswer.{FlagAnswer}
-use Rattle.machine_types.specs.declared.answer.FlagAnswer.TheVariants.{Done as FlagDone, Refused as FlagRefused}
-use Rattle.machine_types.specs.declared.answer.ClockAnswer.{ClockAnswer}
-use Rattle.machine_types.specs.declared.answer.ClockAnswer.TheVariants.{Done as ClockDone, Refused as ClockRefused}
-use Rattle.machine_types.specs.declared.answer.MapAnswer.{MapAnswer}
-use Rattle.machine_types.specs.declared.answer.MapAnswer.TheVariants.{Done as MapDone, Refused as MapRefused}
-use Rattle.machine_types.specs.declared.answer.OddEvenAnswer.{OddEvenAnswer}
-use Rattle.machine_types.specs.declared.answer.OddEvenAnswer.TheVariants.{Done as OddEvenDone, Refused as OddEvenRefused}
-use Rattle.machine_types.specs.declared.answer.ShiftAnswer.{ShiftAnswer}
-use Rattle.machine_types.specs.declared.answer.ShiftAnswer.TheVariants.{Done as ShiftDone, Refused as ShiftRefused}
-use Rattle.machine_types.specs.declared.answer.MappedAnswer.{MappedAnswer}
-use Rattle.machine_types.specs.declared.answer.MappedAnswer.TheVariants.{Done as MappedDone, Refused as MappedRefused}
-use Rattle.machine_types.specs.declared.answer.ShownPixels.{ShownPixels}
+use Rattle.machine_types.specs.declared.answer.Part.{Part}
+use Rattle.machine_types.specs.declared.place.PlaneOffset.{PlaneOffset}
 use Rattle.machine_types.specs.declared.gc.MemoryMap.{MemoryMap}
 use Rattle.machine_types.specs.declared.gc.MemoryMap.TheVariants.{A0000_128k, A0000_64K, B0000_32K, B8000_32K}
 use Rattle.machine_types.specs.declared.gc.OddEvenModeComplement.{OddEvenModeComplement}
 use Rattle.machine_types.specs.declared.gc.OddEvenModeComplement.TheVariants.{Sequential, OddEven}
 use Rattle.machine_types.specs.declared.gc.ShiftMode.{ShiftMode}
 use Rattle.machine_types.specs.declared.gc.ShiftMode.TheVariants.{Standard, CGACompatible, Chain4, Unused}
-use Rattle.machine.specs.Answers.{refusal_number, Value, one, two, pixel, part, changes, shown, pixels_of, Said, said, Outcome, outcome, byte_said, pixel_said, store_said, done_said}
-use Rattle.machine.specs.Answers.{flag_said, clock_said, map_said, odd_even_said, shift_said, mapped_said, shown_said}
+use Rattle.std.specs.Prelude.{Result, Ok, Err}
+use Rattle.machine.specs.Answers.{Value, one, two, pixel, part, changes, shown, pixels_of, no_pixels, Said, said, Outcome, outcome, said_by}
+use Rattle.machine.specs.Answers.{changed_value, byte_said, pixel_said, store_said, done_said, flag_said, clock_said, map_number, map_said, odd_even_number, odd_even_said}
+use Rattle.machine.specs.Answers.{shift_number, shift_said, mapped_said, older_said, shown_said}
 
 -- two outcomes that are the machine's are one: the same is said, and the same is left
 module _ {S : Type 0} {a b : Said} {s t : S} {o : Outcome S} (p : outcome a s ≡ o) (q : outcome b t ≡ o) where
@@ -85,127 +70,118 @@ changed_back (shown d l) = record { p0 = 0; p1 = 0; p2 = 0; p3 = 0 }
 refusal_of : ℕ → Refusal
 refusal_of n = get_or (Memory ∷ Memory ∷ Window ∷ Offset ∷ Plane ∷ Place ∷ State ∷ Damaged ∷ Range ∷ Shift ∷ Room ∷ []) n Memory
 
--- 0 leads back to an answer that was given, any other number to its refusal
-answer_of : {A : Type 0} → (Value → A) → (Refusal → A) → Said → A
-answer_of done refused a = pick (eqb a.number 0) (done a.value) (refused (refusal_of a.number))
+-- 0 leads back to what was handed back, any other number to its refusal
+answer_of : {T : Type 0} → (Value → T) → Said → Result T Refusal
+answer_of back a = pick (eqb a.number 0) (Ok (back a.value)) (Err (refusal_of a.number))
 
-module _ {A : Type 0} (done : Value → A) (refused : Refusal → A) where
-  back-refused : (r : Refusal) (v : Value) → answer_of done refused (record { number = refusal_number r; value = v }) ≡ refused r
+module _ {T : Type 0} (value : T → Value) (nothing : Value) (back : Value → T) (there : (x : T) → back (value x) ≡ x) where
+  way : (a : Result T Refusal) → answer_of back (said_by value nothing a) ≡ a
   unfolding answer_of refusal_of
-  back-refused Memory v = refl
-  back-refused Window v = refl
-  back-refused Offset v = refl
-  back-refused Plane v = refl
-  back-refused Place v = refl
-  back-refused State v = refl
-  back-refused Damaged v = refl
-  back-refused Range v = refl
-  back-refused Shift v = refl
-  back-refused Room v = refl
+  way (Ok x) = ap Ok (there x)
+  way (Err Memory) = refl
+  way (Err Window) = refl
+  way (Err Offset) = refl
+  way (Err Plane) = refl
+  way (Err Place) = refl
+  way (Err State) = refl
+  way (Err Damaged) = refl
+  way (Err Range) = refl
+  way (Err Shift) = refl
+  way (Err Room) = refl
+
+  -- what can be read back out of its value is told apart
+  told-apart : (a b : Result T Refusal) → said_by value nothing a ≡ said_by value nothing b → a ≡ b
+  told-apart = injective (said_by value nothing) (answer_of back) way
 
 -- ---- the answers
 
-pub byte-injective : (a b : ByteAnswer) → byte_said a ≡ byte_said b → a ≡ b
-byte-injective = injective byte_said (answer_of (λ v. ByteDone (first v)) ByteRefused) way
-  where
-    way : (a : ByteAnswer) → answer_of (λ v. ByteDone (first v)) ByteRefused (byte_said a) ≡ a
-    way (ByteDone x) = unfold answer_of first in refl
-    way (ByteRefused r) = back-refused _ _ r _
+number_back : (x : ℕ) → first (one x) ≡ x
+unfolding first
+number_back x = refl
 
-pub pixel-injective : (a b : ByteAnswer) → pixel_said a ≡ pixel_said b → a ≡ b
-pixel-injective = injective pixel_said (answer_of (λ v. ByteDone (first v)) ByteRefused) way
-  where
-    way : (a : ByteAnswer) → answer_of (λ v. ByteDone (first v)) ByteRefused (pixel_said a) ≡ a
-    way (ByteDone x) = unfold answer_of first in refl
-    way (ByteRefused r) = back-refused _ _ r _
+pub byte-injective : (a b : Result ℕ Refusal) → byte_said a ≡ byte_said b → a ≡ b
+byte-injective = told-apart one (one 0) first number_back
 
-pub store-injective : (a b : StoreAnswer) → store_said a ≡ store_said b → a ≡ b
-store-injective = injective store_said (answer_of (λ v. StoreDone (changed_back v)) StoreRefused) way
-  where
-    way : (a : StoreAnswer) → answer_of (λ v. StoreDone (changed_back v)) StoreRefused (store_said a) ≡ a
-    way (StoreDone x) = unfold answer_of changed_back in refl
-    way (StoreRefused r) = back-refused _ _ r _
+pub pixel-injective : (a b : Result ℕ Refusal) → pixel_said a ≡ pixel_said b → a ≡ b
+pixel-injective = told-apart pixel (pixel 0) first λ x. unfold first in refl
 
-pub done-injective : (a b : DoneAnswer) → done_said a ≡ done_said b → a ≡ b
-done-injective = injective done_said (answer_of (λ v. Done) Refused) way
-  where
-    way : (a : DoneAnswer) → answer_of (λ v. Done) Refused (done_said a) ≡ a
-    way Done = unfold answer_of in refl
-    way (Refused r) = back-refused _ _ r _
+pub store-injective : (a b : Result Changed Refusal) → store_said a ≡ store_said b → a ≡ b
+store-injective = told-apart changed_value (changes 0 0 0 0) changed_back λ x. unfold changed_back in refl
+
+pub done-injective : (a b : Result Unit Refusal) → done_said a ≡ done_said b → a ≡ b
+done-injective = told-apart (λ x. one 0) (one 0) (λ v. tt) λ x. refl
 
 -- its number tells the answer of a call that hands nothing back
-done-said : (a : DoneAnswer) → done_said a ≡ said (done_said a).number (one 0)
-done-said Done = refl
-done-said (Refused r) = refl
+done-said : (a : Result Unit Refusal) → done_said a ≡ said (done_said a).number (one 0)
+done-said (Ok x) = refl
+done-said (Err r) = refl
 
-done-by-number : (a b : DoneAnswer) → (done_said a).number ≡ (done_said b).number → a ≡ b
+pub done-by-number : (a b : Result Unit Refusal) → (done_said a).number ≡ (done_said b).number → a ≡ b
 done-by-number a b e = done-injective a b (done-said a ∙ ap (λ (n : ℕ). said n (one 0)) e ∙ sym (done-said b))
 
--- two shows in one shift mode: their answers and their pixels
-pub shown-injective : (d : ShiftMode) (a b : ShownPixels) → shown_said d a ≡ shown_said d b → a ≡ b
-shown-injective d a b e =
-    ap₂ (λ (x : DoneAnswer) (l : List ℕ). record { answer = x; pixels = l }) (done-by-number a.answer b.answer (ap (λ (s : Said). s.number) e))
-    (ap (λ (s : Said). pixels_of s.value) e)
+-- two shows in one shift mode
+pub shown-injective : (d : ShiftMode) (a b : Result (List ℕ) Refusal) → shown_said d a ≡ shown_said d b → a ≡ b
+shown-injective d = told-apart (shown d) (shown d no_pixels) pixels_of λ l. refl
 
-pub flag-injective : (a b : FlagAnswer) → flag_said a ≡ flag_said b → a ≡ b
-flag-injective = injective flag_said (answer_of (λ v. FlagDone (is_one (first v))) FlagRefused) way
-  where
-    way : (a : FlagAnswer) → answer_of (λ v. FlagDone (is_one (first v))) FlagRefused (flag_said a) ≡ a
-    way (FlagDone true) = unfold answer_of first in refl
-    way (FlagDone false) = unfold answer_of first in refl
-    way (FlagRefused r) = back-refused _ _ r _
+-- two older shows: their answers, and the pixels of their parts
+pub older-injective : (a b : Part) → older_said a ≡ older_said b → (a.answer ≡ b.answer) × (a.pixels.now ≡ b.pixels.now)
+older-injective a b e = (done-by-number a.answer b.answer (ap (λ (s : Said). s.number) e), ap (λ (s : Said). pixels_of s.value) e)
 
-pub clock-injective : (a b : ClockAnswer) → clock_said a ≡ clock_said b → a ≡ b
-clock-injective = injective clock_said (answer_of (λ v. ClockDone (first v)) ClockRefused) way
-  where
-    way : (a : ClockAnswer) → answer_of (λ v. ClockDone (first v)) ClockRefused (clock_said a) ≡ a
-    way (ClockDone x) = unfold answer_of first in refl
-    way (ClockRefused r) = back-refused _ _ r _
+flag_back : (b : Bool) → is_one (first (one (bit_of b))) ≡ b
+unfolding first
+flag_back true = refl
+flag_back false = refl
+
+pub flag-injective : (a b : Result Bool Refusal) → flag_said a ≡ flag_said b → a ≡ b
+flag-injective = told-apart (λ b. one (bit_of b)) (one 0) (λ v. is_one (first v)) flag_back
+
+pub clock-injective : (a b : Result ℕ Refusal) → clock_said a ≡ clock_said b → a ≡ b
+clock-injective = told-apart one (one 0) first number_back
 
 map_of : ℕ → MemoryMap
 map_of n = get_or (A0000_128k ∷ A0000_64K ∷ B0000_32K ∷ B8000_32K ∷ []) n A0000_128k
 
-pub map_injective : (a b : MapAnswer) → map_said a ≡ map_said b → a ≡ b
-map_injective = injective map_said (answer_of (λ v. MapDone (map_of (first v))) MapRefused) way
-  where
-    way : (a : MapAnswer) → answer_of (λ v. MapDone (map_of (first v))) MapRefused (map_said a) ≡ a
-    way (MapDone A0000_128k) = unfold answer_of first map_of in refl
-    way (MapDone A0000_64K) = unfold answer_of first map_of in refl
-    way (MapDone B0000_32K) = unfold answer_of first map_of in refl
-    way (MapDone B8000_32K) = unfold answer_of first map_of in refl
-    way (MapRefused r) = back-refused _ _ r _
+map_back : (m : MemoryMap) → map_of (first (one (map_number m))) ≡ m
+unfolding first map_of
+map_back A0000_128k = refl
+map_back A0000_64K = refl
+map_back B0000_32K = refl
+map_back B8000_32K = refl
+
+pub map_injective : (a b : Result MemoryMap Refusal) → map_said a ≡ map_said b → a ≡ b
+map_injective = told-apart (λ m. one (map_number m)) (one 0) (λ v. map_of (first v)) map_back
 
 odd_even_of : ℕ → OddEvenModeComplement
 odd_even_of n = get_or (Sequential ∷ OddEven ∷ []) n Sequential
 
-pub odd-even-injective : (a b : OddEvenAnswer) → odd_even_said a ≡ odd_even_said b → a ≡ b
-odd-even-injective = injective odd_even_said (answer_of (λ v. OddEvenDone (odd_even_of (first v))) OddEvenRefused) way
-  where
-    way : (a : OddEvenAnswer) → answer_of (λ v. OddEvenDone (odd_even_of (first v))) OddEvenRefused (odd_even_said a) ≡ a
-    way (OddEvenDone Sequential) = unfold answer_of first odd_even_of in refl
-    way (OddEvenDone OddEven) = unfold answer_of first odd_even_of in refl
-    way (OddEvenRefused r) = back-refused _ _ r _
+odd_even_back : (m : OddEvenModeComplement) → odd_even_of (first (one (odd_even_number m))) ≡ m
+unfolding first odd_even_of
+odd_even_back Sequential = refl
+odd_even_back OddEven = refl
+
+pub odd-even-injective : (a b : Result OddEvenModeComplement Refusal) → odd_even_said a ≡ odd_even_said b → a ≡ b
+odd-even-injective = told-apart (λ m. one (odd_even_number m)) (one 0) (λ v. odd_even_of (first v)) odd_even_back
 
 shift_of : ℕ → ShiftMode
 shift_of n = get_or (Standard ∷ CGACompatible ∷ Chain4 ∷ Unused ∷ []) n Standard
 
-pub shift-injective : (a b : ShiftAnswer) → shift_said a ≡ shift_said b → a ≡ b
-shift-injective = injective shift_said (answer_of (λ v. ShiftDone (shift_of (first v))) ShiftRefused) way
-  where
-    way : (a : ShiftAnswer) → answer_of (λ v. ShiftDone (shift_of (first v))) ShiftRefused (shift_said a) ≡ a
-    way (ShiftDone Standard) = unfold answer_of first shift_of in refl
-    way (ShiftDone CGACompatible) = unfold answer_of first shift_of in refl
-    way (ShiftDone Chain4) = unfold answer_of first shift_of in refl
-    way (ShiftDone Unused) = unfold answer_of first shift_of in refl
-    way (ShiftRefused r) = back-refused _ _ r _
+shift_back : (m : ShiftMode) → shift_of (first (one (shift_number m))) ≡ m
+unfolding first shift_of
+shift_back Standard = refl
+shift_back CGACompatible = refl
+shift_back Chain4 = refl
+shift_back Unused = refl
 
-mapped_of : Value → MappedAnswer
-mapped_of v = MappedDone (record { 0 = first v }) (is_one (second v))
+pub shift-injective : (a b : Result ShiftMode Refusal) → shift_said a ≡ shift_said b → a ≡ b
+shift-injective = told-apart (λ m. one (shift_number m)) (one 0) (λ v. shift_of (first v)) shift_back
 
-pub mapped-injective : (a b : MappedAnswer) → mapped_said a ≡ mapped_said b → a ≡ b
-mapped-injective = injective mapped_said (answer_of mapped_of MappedRefused) way
-  where
-    way : (a : MappedAnswer) → answer_of mapped_of MappedRefused (mapped_said a) ≡ a
-    way (MappedDone o true) = unfold answer_of first second mapped_of in refl
-    way (MappedDone o false) = unfold answer_of first second mapped_of in refl
-    way (MappedRefused r) = back-refused _ _ r _
+mapped_of : Value → PlaneOffset × Bool
+mapped_of v = (record { 0 = first v }, is_one (second v))
+
+mapped_back : (m : PlaneOffset × Bool) → mapped_of (two m.0.0 (bit_of m.1)) ≡ m
+unfolding first second mapped_of
+mapped_back (o, true) = refl
+mapped_back (o, false) = refl
+
+pub mapped-injective : (a b : Result (PlaneOffset × Bool) Refusal) → mapped_said a ≡ mapped_said b → a ≡ b
+mapped-injective = told-apart (λ m. two m.0.0 (bit_of m.1)) (two 0 0) mapped_of mapped_back

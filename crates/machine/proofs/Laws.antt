@@ -1,20 +1,21 @@
 -- What the proofs of the code cite of the machine: an answer by its number, what an accepted check says, a store plane by plane, eight pixels as a list.
 use Prim.Native.Nat.{ℕ, zero, suc, ◌*◌, ◌/◌, ◌≤◌, ◌<◌}
 use native.Mathlib.Omega.{arith}
-use mathlib.Core.Path.{◌≡◌, refl}
+use mathlib.Core.Path.{◌≡◌, refl, sym, ap, subst, ◌∙◌}
 use mathlib.Core.Bool.{Bool, true, false, ◌&&◌}
 use mathlib.Core.List.{List, [], ◌∷◌}
 use lib.Dec.{eqb, ltb}
-use lib.ListN.{length, get_or}
+use lib.ListN.{length, get_or, set, length-set}
 use borrow.Author.Tests.{ltb-true, leb-true, eqb-true}
+use Rattle.std.specs.Prelude.{Result, Ok, Err}
 use Rattle.bits.specs.Bit.{pick}
 use Rattle.machine_types.specs.declared.answer.Refusal.{Refusal}
 use Rattle.machine_types.specs.declared.answer.Refusal.TheVariants.{Memory as NoMemory, Window, Offset, Plane, Place, State, Damaged, Range, Shift, Room}
 use Rattle.machine_types.specs.declared.gc.GraphicsRegisters.{GraphicsRegisters}
 use Rattle.machine_types.specs.declared.seq.Sequencer.{Sequencer}
 use Rattle.machine_types.specs.declared.shape.Shape.{Shape}
-use Rattle.machine.specs.Memory.{Memory, size, sound, Sound}
-use Rattle.machine.specs.Answers.{refusal_number, Value, blank, said, outcome, answered}
+use Rattle.machine.specs.Memory.{Memory, shape, size, sound, Sound, Shaped}
+use Rattle.machine.specs.Answers.{refusal_number, Value, blank, said, said_by, done_said, outcome, answered}
 use Rattle.machine.specs.Graphics.{memory_map}
 use Rattle.machine.specs.Sequencer.{chain_four, stored_at}
 use Rattle.machine.specs.Address.{in_window, offset}
@@ -43,14 +44,6 @@ pub perform-refused : (a : Plan) (m : Memory) (k : ℕ) (v : Value) → 0 < k �
 unfolding perform
 perform-refused a m k v h e f = answered-refused k a.number _ v _ m h e f
 
--- a call that names no counter for its refusals raises none, whatever the number
-pub none-raised : (n : ℕ) → refusal_counter n no_counter ≡ no_counter
-none-raised n = go (is_counted n)
-  where
-    go : (t : Bool) → pick t no_counter no_counter ≡ no_counter
-    go true = refl
-    go false = refl
-
 -- no refusal has number 0
 pub refusal-some : (r : Refusal) → 0 < refusal_number r
 refusal-some NoMemory = omega arith
@@ -63,6 +56,21 @@ refusal-some Damaged = omega arith
 refusal-some Range = omega arith
 refusal-some Shift = omega arith
 refusal-some Room = omega arith
+
+-- a plan that moves nothing, and the one value that it hands back, by what its judge answered
+pub answered-by : (a : Plan) (m : Memory) (v nothing : Value) (d : Result Unit Refusal) → (done_said d).number ≡ a.number
+    → m ≡ memory_after a.deed [] m → v ≡ value_of a.reply m [] m → nothing ≡ blank (value_of a.reply m [] (memory_after a.deed [] m))
+    → outcome (said_by (λ x. v) nothing d) m ≡ perform a m
+answered-by a m v nothing (Ok x) e s h b = perform-done a m m v e s h
+answered-by a m v nothing (Err r) e s h b = perform-refused a m (refusal_number r) nothing (refusal-some r) e b
+
+-- a call that names no counter for its refusals raises none, whatever the number
+pub none-raised : (n : ℕ) → refusal_counter n no_counter ≡ no_counter
+none-raised n = go (is_counted n)
+  where
+    go : (t : Bool) → pick t no_counter no_counter ≡ no_counter
+    go true = refl
+    go false = refl
 
 -- ---- what an accepted check says
 
@@ -219,6 +227,24 @@ module _ (o p : ℕ) (w : ℕ → Bool) (b : ℕ → ℕ) (m : Memory) (h : p �
       go (suc (suc zero)) l e = rw e
       go (suc (suc (suc zero))) l e = rw e
       go (suc (suc (suc (suc q)))) l e = absurd (omega arith)
+
+-- ---- lengths: bytes laid move none
+
+laid_length : (t : Bool) (l : List ℕ) (o x : ℕ) → length (pick t (set l o x) l) ≡ length l
+laid_length true l o x = length-set l o x
+laid_length false l o x = refl
+
+pub laid_shape : (o : ℕ) (w : ℕ → Bool) (b : ℕ → ℕ) (m : Memory) → shape (laid o w b m) ≡ shape m
+unfolding laid
+laid_shape o w b m =
+    rw (laid_length (w 0) m.p0 o (b 0), laid_length (w 1) m.p1 o (b 1), laid_length (w 2) m.p2 o (b 2), laid_length (w 3) m.p3 o (b 3))
+
+-- what an inner function asks for holds after it
+pub laid_within : (o : ℕ) (w : ℕ → Bool) (b : ℕ → ℕ) (m m' : Memory) (k : ℕ) → m' ≡ laid o w b m → Shaped m → k < length m.p0 → Shaped m' × (k < length m'.p0)
+laid_within o w b m m' k e h l =
+    let same : shape m' ≡ shape m = ap shape e ∙ laid_shape o w b m in
+    let P : Shape → Type 0 = λ s. Sound s × (k < size s) in
+    subst P (sym same) (h, l)
 
 -- ---- a show's pixels
 

@@ -1,28 +1,11 @@
 -- What a call answers, in the document's numbers: 0 or a refusal, a value, and what is left.
-use Rattle.std.specs.Prelude.{ℕ, zero, suc, List, [], ◌∷◌}
+use Rattle.std.specs.Prelude.{ℕ, zero, suc, Bool, List, [], ◌∷◌, Result, Ok, Err}
 use Rattle.bits.specs.Bit.{bit_of}
 use Rattle.machine_types.specs.declared.answer.Refusal.{Refusal}
 use Rattle.machine_types.specs.declared.answer.Refusal.TheVariants.{Memory, Window, Offset, Plane, Place, State, Damaged, Range, Shift, Room}
-use Rattle.machine_types.specs.declared.answer.ByteAnswer.{ByteAnswer}
-use Rattle.machine_types.specs.declared.answer.ByteAnswer.TheVariants.{Done as ByteDone, Refused as ByteRefused}
 use Rattle.machine_types.specs.declared.answer.Changed.{Changed}
-use Rattle.machine_types.specs.declared.answer.StoreAnswer.{StoreAnswer}
-use Rattle.machine_types.specs.declared.answer.StoreAnswer.TheVariants.{Done as StoreDone, Refused as StoreRefused}
-use Rattle.machine_types.specs.declared.answer.DoneAnswer.{DoneAnswer}
-use Rattle.machine_types.specs.declared.answer.DoneAnswer.TheVariants.{Done, Refused}
-use Rattle.machine_types.specs.declared.answer.FlagAnswer.{FlagAnswer}
-use Rattle.machine_types.specs.declared.answer.FlagAnswer.TheVariants.{Done as FlagDone, Refused as FlagRefused}
-use Rattle.machine_types.specs.declared.answer.ClockAnswer.{ClockAnswer}
-use Rattle.machine_types.specs.declared.answer.ClockAnswer.TheVariants.{Done as ClockDone, Refused as ClockRefused}
-use Rattle.machine_types.specs.declared.answer.MapAnswer.{MapAnswer}
-use Rattle.machine_types.specs.declared.answer.MapAnswer.TheVariants.{Done as MapDone, Refused as MapRefused}
-use Rattle.machine_types.specs.declared.answer.OddEvenAnswer.{OddEvenAnswer}
-use Rattle.machine_types.specs.declared.answer.OddEvenAnswer.TheVariants.{Done as OddEvenDone, Refused as OddEvenRefused}
-use Rattle.machine_types.specs.declared.answer.ShiftAnswer.{ShiftAnswer}
-use Rattle.machine_types.specs.declared.answer.ShiftAnswer.TheVariants.{Done as ShiftDone, Refused as ShiftRefused}
-use Rattle.machine_types.specs.declared.answer.MappedAnswer.{MappedAnswer}
-use Rattle.machine_types.specs.declared.answer.MappedAnswer.TheVariants.{Done as MappedDone, Refused as MappedRefused}
-use Rattle.machine_types.specs.declared.answer.ShownPixels.{ShownPixels}
+use Rattle.machine_types.specs.declared.answer.Part.{Part}
+use Rattle.machine_types.specs.declared.place.PlaneOffset.{PlaneOffset}
 use Rattle.machine_types.specs.declared.gc.MemoryMap.{MemoryMap}
 use Rattle.machine_types.specs.declared.gc.MemoryMap.TheVariants.{A0000_128k, A0000_64K, B0000_32K, B8000_32K}
 use Rattle.machine_types.specs.declared.gc.OddEvenModeComplement.{OddEvenModeComplement}
@@ -130,64 +113,63 @@ shift_number CGACompatible = 1
 shift_number Chain4 = 2
 shift_number Unused = 3
 
+-- an answer by the value of what it hands back; a refusal has its number, and the blank of the call's kind
+abbrev pub said_by : {T : Type 0} → (T → Value) → Value → Result T Refusal → Said
+said_by value nothing (Ok x) = said 0 (value x)
+said_by value nothing (Err r) = said (refusal_number r) nothing
+
 -- a byte that was read; 0 where refused
-abbrev pub byte_said : ByteAnswer → Said
-byte_said (ByteDone x) = said 0 (one x)
-byte_said (ByteRefused r) = said (refusal_number r) (one 0)
+abbrev pub byte_said : Result ℕ Refusal → Said
+byte_said = said_by one (one 0)
 
 -- `read_linear` hands out a pixel
-abbrev pub pixel_said : ByteAnswer → Said
-pixel_said (ByteDone x) = said 0 (pixel x)
-pixel_said (ByteRefused r) = said (refusal_number r) (pixel 0)
+abbrev pub pixel_said : Result ℕ Refusal → Said
+pixel_said = said_by pixel (pixel 0)
 
 -- the code's four numbers
 abbrev pub changed_value : Changed → Value
 changed_value x = changes x.p0 x.p1 x.p2 x.p3
 
 -- a store: its four numbers; all 0 where refused
-abbrev pub store_said : StoreAnswer → Said
-store_said (StoreDone x) = said 0 (changed_value x)
-store_said (StoreRefused r) = said (refusal_number r) (changes 0 0 0 0)
+abbrev pub store_said : Result Changed Refusal → Said
+store_said = said_by changed_value (changes 0 0 0 0)
 
 -- a register write and `deplane` hand nothing back
-abbrev pub done_said : DoneAnswer → Said
-done_said Done = said 0 (one 0)
-done_said (Refused r) = said (refusal_number r) (one 0)
+abbrev pub done_said : Result Unit Refusal → Said
+done_said = said_by (λ x. one 0) (one 0)
 
 -- a mark or a field that is set or clear: 1 or 0
-abbrev pub flag_said : FlagAnswer → Said
-flag_said (FlagDone b) = said 0 (one (bit_of b))
-flag_said (FlagRefused r) = said (refusal_number r) (one 0)
+abbrev pub flag_said : Result Bool Refusal → Said
+flag_said = said_by (λ b. one (bit_of b)) (one 0)
 
 -- `clock`: the character clock as a number
-abbrev pub clock_said : ClockAnswer → Said
-clock_said (ClockDone x) = said 0 (one x)
-clock_said (ClockRefused r) = said (refusal_number r) (one 0)
+abbrev pub clock_said : Result ℕ Refusal → Said
+clock_said = said_by one (one 0)
 
 -- `memory_map`: the map's place in its order
-abbrev pub map_said : MapAnswer → Said
-map_said (MapDone m) = said 0 (one (map_number m))
-map_said (MapRefused r) = said (refusal_number r) (one 0)
+abbrev pub map_said : Result MemoryMap Refusal → Said
+map_said = said_by (λ m. one (map_number m)) (one 0)
 
 -- `odd_even`: the mode's place in its order
-abbrev pub odd_even_said : OddEvenAnswer → Said
-odd_even_said (OddEvenDone m) = said 0 (one (odd_even_number m))
-odd_even_said (OddEvenRefused r) = said (refusal_number r) (one 0)
+abbrev pub odd_even_said : Result OddEvenModeComplement Refusal → Said
+odd_even_said = said_by (λ m. one (odd_even_number m)) (one 0)
 
 -- `shift_mode`: the mode's place in its order
-abbrev pub shift_said : ShiftAnswer → Said
-shift_said (ShiftDone m) = said 0 (one (shift_number m))
-shift_said (ShiftRefused r) = said (refusal_number r) (one 0)
+abbrev pub shift_said : Result ShiftMode Refusal → Said
+shift_said = said_by (λ m. one (shift_number m)) (one 0)
 
 -- `map_address`: offset and a0; both numbers 0 where refused
-abbrev pub mapped_said : MappedAnswer → Said
-mapped_said (MappedDone o a0) = said 0 (two o.0 (bit_of a0))
-mapped_said (MappedRefused r) = said (refusal_number r) (two 0 0)
+abbrev pub mapped_said : Result (PlaneOffset × Bool) Refusal → Said
+mapped_said = said_by (λ m. two m.0.0 (bit_of m.1)) (two 0 0)
 
 -- an older show's number and the part handed back
 abbrev pub part_said : ℕ → List ℕ → Said
 part_said n l = said n (part l)
 
--- a show of a shift mode: its answer's number and the pixels beside it
-abbrev pub shown_said : ShiftMode → ShownPixels → Said
-shown_said d x = said (done_said x.answer).number (shown d x.pixels)
+-- .. of the code's answer and its part
+abbrev pub older_said : Part → Said
+older_said p = part_said (done_said p.answer).number p.pixels.now
+
+-- a show of a shift mode: its eight pixels; all 0 where refused
+abbrev pub shown_said : ShiftMode → Result (List ℕ) Refusal → Said
+shown_said d = said_by (shown d) (shown d no_pixels)

@@ -1,5 +1,7 @@
 -- The lent memory: four planes of n bytes each, and a picture of 8n bytes, one per pixel.
 use Rattle.std.specs.Prelude.{ℕ, zero, suc, ◌*◌, ◌<◌, ◌≤◌, ◌≡◌, Bool, ◌&&◌, List, [], eqb, ltb, leb, length}
+use Rattle.machine_types.specs.Slices.{ToRead, ToStore, ToRemake}
+use Rattle.machine_types.specs.declared.memory.Lent.{Lent}
 use Rattle.machine_types.specs.declared.shape.Shape.{Shape}
 
 -- the four planes and the picture, as lists of bytes
@@ -13,6 +15,20 @@ pub record Memory : Type 0 where
 -- the memory of five lists
 abbrev pub mem : List ℕ → List ℕ → List ℕ → List ℕ → List ℕ → Memory
 mem a b c d e = record { p0 = a; p1 = b; p2 = c; p3 = d; picture = e }
+
+-- the memory behind a loan, by the bytes of a plane and of the picture
+abbrev pub behind : {P Q : Type 0} → (P → List ℕ) → (Q → List ℕ) → Lent P Q → Memory
+behind plane_bytes picture_bytes m = mem (plane_bytes m.p0) (plane_bytes m.p1) (plane_bytes m.p2) (plane_bytes m.p3) (picture_bytes m.picture)
+
+-- .. to a read, to a store, and to `deplane`
+abbrev pub seen : ToRead → Memory
+seen = behind (λ s. s.now) (λ s. s.now)
+
+abbrev pub lent : ToStore → Memory
+lent = behind (λ s. s.now) (λ s. s.now)
+
+abbrev pub remade_in : ToRemake → Memory
+remade_in = behind (λ s. s.now) (λ s. s.now)
 
 -- the plane of a number; there is none from 4 on
 abbrev pub plane : Memory → ℕ → List ℕ

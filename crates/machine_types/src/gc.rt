@@ -3,7 +3,7 @@ ghost use Rattle.std.specs.Prelude.{◌≡◌};
 ghost use Rattle.machine_types.specs.Start.{fresh_gc};
 
 // The registers that the address register selects, in the order of their numbers.
-#[derive(Clone, Copy)]
+#[derive(Clone, Copy, PartialEq, Eq)]
 pub enum GraphicsRegister {
     SetReset,
     EnableSetReset,
@@ -16,13 +16,13 @@ pub enum GraphicsRegister {
     BitMask,
 }
 
-#[derive(Clone, Copy)]
+#[derive(Clone, Copy, PartialEq, Eq)]
 pub enum OddEvenModeComplement {
     Sequential,
     OddEven,
 }
 
-#[derive(Clone, Copy)]
+#[derive(Clone, Copy, PartialEq, Eq)]
 pub enum MemoryMap {
     A0000_128k,
     A0000_64K,
@@ -45,7 +45,7 @@ impl MemoryMap {
     pub const WINDOW_B8000_LAST: usize = 0xBFFFF;
 }
 
-#[derive(Clone, Copy)]
+#[derive(Clone, Copy, PartialEq, Eq)]
 pub enum LogicFunction {
     Unmodified,
     And,
@@ -53,7 +53,7 @@ pub enum LogicFunction {
     Xor,
 }
 
-#[derive(Clone, Copy)]
+#[derive(Clone, Copy, PartialEq, Eq)]
 pub enum WriteMode {
     Mode0,
     Mode1,
@@ -61,13 +61,13 @@ pub enum WriteMode {
     Mode3,
 }
 
-#[derive(Clone, Copy)]
+#[derive(Clone, Copy, PartialEq, Eq)]
 pub enum ReadMode {
     ReadSelectedPlane,
     ReadComparedPlanes,
 }
 
-#[derive(Clone, Copy)]
+#[derive(Clone, Copy, PartialEq, Eq)]
 pub enum ShiftMode {
     Standard,
     CGACompatible,

@@ -3,19 +3,17 @@
 
 mod answer;
 mod gc;
+mod memory;
 mod place;
 mod seq;
 mod shape;
 
-pub use answer::{
-    ByteAnswer, Changed, ClockAnswer, CpuByte, CpuStore, DoneAnswer, FlagAnswer, GraphicsDone,
-    MapAnswer, MappedAnswer, OddEvenAnswer, Refusal, SequencerDone, SequencerFlag, ShiftAnswer,
-    ShownPixels, StoreAnswer,
-};
+pub use answer::{After, Changed, Part, Refusal};
 pub use gc::{
     GraphicsController, GraphicsControllerStats, GraphicsRegister, GraphicsRegisters,
     LogicFunction, MemoryMap, OddEvenModeComplement, ReadMode, ShiftMode, WriteMode,
 };
+pub use memory::{Bytes, Lent, LentToRead, LentToRemake, LentToStore};
 pub use place::{PixelPlace, PlaneOffset};
 pub use seq::{OddEvenMode, Sequencer, SequencerRegister};
 pub use shape::Shape;

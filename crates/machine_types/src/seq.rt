@@ -2,7 +2,7 @@
 ghost use Rattle.std.specs.Prelude.{◌≡◌};
 ghost use Rattle.machine_types.specs.Start.{fresh_seq};
 
-#[derive(Clone, Copy)]
+#[derive(Clone, Copy, PartialEq, Eq)]
 pub enum SequencerRegister {
     Reset,
     ClockingMode,
@@ -12,7 +12,7 @@ pub enum SequencerRegister {
     Invalid,
 }
 
-#[derive(Clone, Copy)]
+#[derive(Clone, Copy, PartialEq, Eq)]
 pub enum OddEvenMode {
     OddEven,
     Sequential,

@@ -1,23 +1,18 @@
--- A direct call by plane, by what `judge_direct` answered.
-use Prim.Native.Nat.{ℕ}
+-- A direct call by plane that `judge_direct` accepts.
+use Prim.Native.Nat.{ℕ, ◌<◌, ◌≤◌}
 use mathlib.Core.Path.{◌≡◌, sym}
 use mathlib.Core.Bool.{true}
 use Rattle.machine_types.specs.declared.seq.Sequencer.{Sequencer}
-use Rattle.machine_types.specs.declared.answer.DoneAnswer.{DoneAnswer}
-use Rattle.machine_types.specs.declared.answer.DoneAnswer.TheVariants.{Done}
-use Rattle.machine.specs.Memory.{Memory, shape}
-use Rattle.machine.specs.Answers.{done_said}
+use Rattle.machine_types.specs.declared.shape.Shape.{Shape}
+use Rattle.machine.specs.Memory.{size, Sound}
 use Rattle.machine.specs.Sequencer.{fits_seq}
 use Rattle.machine.specs.Calls.{refuse, plane_number}
-use Rattle.machine.proofs.Laws.{refuse-0, AtPlane, plane-accepted}
-use Rattle.refusals_memory.proofs.Told.{as-told}
+use Rattle.machine.proofs.Laws.{refuse-0, plane-accepted}
 
--- what the code's judge of a plane and an offset answered
-abbrev pub Judged : Sequencer → Memory → ℕ → ℕ → DoneAnswer → Type 0
-Judged s m p o d = (done_said d).number ≡ refuse (fits_seq s) 6 (plane_number (shape m) p o)
+module _ (s : Sequencer) (h : Shape) (p o : ℕ) (e : 0 ≡ refuse (fits_seq s) 6 (plane_number h p o)) where
+  pub record_fits : fits_seq s ≡ true
+  record_fits = (refuse-0 (fits_seq s) 5 (plane_number h p o) (sym e)).0
 
--- refusals 6, 1, 4, 3 passed
-pub accepted : (s : Sequencer) (m : Memory) (p o : ℕ) {d : DoneAnswer} → Judged s m p o d → d ≡ Done → (fits_seq s ≡ true) × AtPlane (shape m) p o
-accepted s m p o j e =
-    let a = refuse-0 (fits_seq s) 5 (plane_number (shape m) p o) (sym (as-told e j)) in
-    (a.0, plane-accepted (shape m) p o a.1)
+  -- what an inner function asks
+  pub plane_asked : Sound h × ((o < size h) × (p ≤ 3))
+  plane_asked = let a = plane-accepted h p o (refuse-0 (fits_seq s) 5 (plane_number h p o) (sym e)).1 in (a.shaped, (a.offset, a.plane))

@@ -3,7 +3,9 @@ use Prim.Native.Nat.{ℕ, zero, suc, ◌+◌, ◌-◌, ◌*◌, ◌/◌, ◌%◌
 use native.Mathlib.Omega.{arith}
 use mathlib.Core.Path.{◌≡◌, refl, ap, ◌∙◌}
 use mathlib.Core.Bool.{Bool, true, false, not, ◌&&◌}
-use lib.Bits.{bit_and, bit_or, and_high, or_shifted}
+use lib.Bits.{bit_and, bit_or, and_high, and_le_r, and_mask, or_shifted}
+use Rattle.bits.proofs.Bitwise.{shr_and_one}
+use Rattle.std.specs.Prelude.{Some, None}
 use lib.Dec.{eqb, leb}
 use mir.Val.{bool_byte}
 use borrow.Author.Tests.{le-leb, lt-leb, eq-eqb, ne_eqb}
@@ -33,39 +35,46 @@ module _ (first last x : ℕ) where
 -- ---- where an address leads
 
 module _ (map : MemoryMap) (chain : Bool) (x : ℕ) (page : Bool) where
-  pub outside : in_window map x ≡ false → 65536 ≡ leads_to map chain x page
+  pub outside : in_window map x ≡ false → None ≡ leads_to map chain x page
   unfolding leads_to
   outside e = simp e
 
-  pub inside : {o : ℕ} → in_window map x ≡ true → o ≡ mapped map chain x page % 65536 → o ≡ leads_to map chain x page
+  pub inside : {o : ℕ} → in_window map x ≡ true → o ≡ mapped map chain x page % 65536 → Some o ≡ leads_to map chain x page
   unfolding leads_to
-  inside e f = f ∙ simp e
+  inside e f = ap Some f ∙ simp e
 
-  -- no offset is 65,536
-  pub is-outside : leads_to map chain x page ≡ 65536 → in_window map x ≡ false
+  -- led nowhere, or somewhere
+  pub is_outside : leads_to map chain x page ≡ None → in_window map x ≡ false
   unfolding leads_to
-  is-outside = go (in_window map x)
+  is_outside = go (in_window map x)
     where
-      go : (t : Bool) → pick t (mapped map chain x page % 65536) 65536 ≡ 65536 → t ≡ false
-      go true e = absurd (omega arith)
+      go : (t : Bool) → pick t (Some (mapped map chain x page % 65536)) None ≡ None → t ≡ false
+      go true e = cc
       go false e = refl
 
-  pub is-inside : (leads_to map chain x page ≡ 65536 → ⊥) → (in_window map x ≡ true) × (leads_to map chain x page ≡ mapped map chain x page % 65536)
+  pub is_inside : {o : ℕ} → leads_to map chain x page ≡ Some o → (in_window map x ≡ true) × (o ≡ mapped map chain x page % 65536)
   unfolding leads_to
-  is-inside = go (in_window map x)
+  is_inside {o} = go (in_window map x)
     where
-      go : (t : Bool) → (pick t (mapped map chain x page % 65536) 65536 ≡ 65536 → ⊥)
-          → (t ≡ true) × (pick t (mapped map chain x page % 65536) 65536 ≡ mapped map chain x page % 65536)
-      go true n = (refl, refl)
-      go false n = absurd (n refl)
+      go : (t : Bool) → pick t (Some (mapped map chain x page % 65536)) None ≡ Some o → (t ≡ true) × (o ≡ mapped map chain x page % 65536)
+      go true e = (refl, cc)
+      go false e = (cc, cc)
 
 -- `(x & 0xFFFE) | b`
-pub low-replaced : (x b : ℕ) → b ≤ 1 → bit_or (bit_and x 65534) b ≡ with_bit0 b x % 65536
-low-replaced x b l = ap (λ (y : ℕ). bit_or y b) (and_high x 15 1) ∙ or_shifted (x / 2 % 32768) 1 b (omega arith) ∙ omega arith
+pub low_replaced : (x b : ℕ) → b ≤ 1 → bit_or (bit_and x 65534) b ≡ with_bit0 b x % 65536
+low_replaced x b l = ap (λ (y : ℕ). bit_or y b) (and_high x 15 1) ∙ or_shifted (x / 2 % 32768) 1 b (omega arith) ∙ omega arith
 
-pub page-replaced : (x : ℕ) (page : Bool) → bit_or (bit_and x 65534) (bool_byte page) ≡ with_bit0 (bit_of page) x % 65536
-page-replaced x true = low-replaced x 1 (omega arith)
-page-replaced x false = low-replaced x 0 (omega arith)
+-- `(x & 0xFFFE) | (x >> 16 & 1)`
+pub bit_16_replaced : (x : ℕ) → bit_or (bit_and x 65534) (bit_and (x / 65536) 1) ≡ with_bit0 (bit 16 x) x % 65536
+bit_16_replaced x = low_replaced x (bit_and (x / 65536) 1) (and_le_r (x / 65536) 1) ∙ ap (λ (b : ℕ). with_bit0 b x % 65536) (shr_and_one x 16)
+
+-- `x & 0xFFFF`
+pub low_16 : (x : ℕ) → bit_and x 65535 ≡ x % 65536
+low_16 x = and_mask x 16
+
+pub page_replaced : (x : ℕ) (page : Bool) → bit_or (bit_and x 65534) (bool_byte page) ≡ with_bit0 (bit_of page) x % 65536
+page_replaced x true = low_replaced x 1 (omega arith)
+page_replaced x false = low_replaced x 0 (omega arith)
 
 -- an address of a window of at most 64K, counted from its first
 pub from_first : (x first : ℕ) → first ≤ x → x ≤ first + 65535 → x - first ≡ (x - first) % 65536
@@ -81,9 +90,9 @@ chain-set b n = simp (ne_eqb b 0 n)
 
 module _ (m : ℕ) where
   -- bit 1 is chain odd/even
-  pub chain-is : not (eqb (bit_and m 2) 0) ≡ chain_of m
+  pub chain_is : not (eqb (bit_and m 2) 0) ≡ chain_of m
   unfolding bit
-  chain-is = rw (and_high m 1 1) (go (m / 2 % 2) (omega arith))
+  chain_is = rw (and_high m 1 1) (go (m / 2 % 2) (omega arith))
     where
       go : (b : ℕ) → b < 2 → not (eqb (b * 2) 0) ≡ is_one b
       go zero l = refl
@@ -97,21 +106,21 @@ module _ (m : ℕ) where
       let q : m / 4 / 2 % 2 ≡ m / 4 / 2 - 2 * (m / 4 / 4) = omega arith in
       omega (arith, h, q)
 
-  pub map-128k : bit_and m 8 ≡ 0 → bit_and m 4 ≡ 0 → map_of m ≡ A0000_128k
+  pub map_128k : bit_and m 8 ≡ 0 → bit_and m 4 ≡ 0 → map_of m ≡ A0000_128k
   unfolding field
-  map-128k e f = let n : m / 4 % 4 ≡ 0 = omega (arith, e, f, and_high m 1 3, and_high m 1 2, two-bits) in rw n
+  map_128k e f = let n : m / 4 % 4 ≡ 0 = omega (arith, e, f, and_high m 1 3, and_high m 1 2, two-bits) in rw n
 
-  pub map-64k : bit_and m 8 ≡ 0 → (bit_and m 4 ≡ 0 → ⊥) → map_of m ≡ A0000_64K
+  pub map_64k : bit_and m 8 ≡ 0 → (bit_and m 4 ≡ 0 → ⊥) → map_of m ≡ A0000_64K
   unfolding field
-  map-64k e f = let n : m / 4 % 4 ≡ 1 = omega (arith, e, f, and_high m 1 3, and_high m 1 2, two-bits) in rw n
+  map_64k e f = let n : m / 4 % 4 ≡ 1 = omega (arith, e, f, and_high m 1 3, and_high m 1 2, two-bits) in rw n
 
-  pub map-b0000 : (bit_and m 8 ≡ 0 → ⊥) → bit_and m 4 ≡ 0 → map_of m ≡ B0000_32K
+  pub map_b0000 : (bit_and m 8 ≡ 0 → ⊥) → bit_and m 4 ≡ 0 → map_of m ≡ B0000_32K
   unfolding field
-  map-b0000 e f = let n : m / 4 % 4 ≡ 2 = omega (arith, e, f, and_high m 1 3, and_high m 1 2, two-bits) in rw n
+  map_b0000 e f = let n : m / 4 % 4 ≡ 2 = omega (arith, e, f, and_high m 1 3, and_high m 1 2, two-bits) in rw n
 
-  pub map-b8000 : (bit_and m 8 ≡ 0 → ⊥) → (bit_and m 4 ≡ 0 → ⊥) → map_of m ≡ B8000_32K
+  pub map_b8000 : (bit_and m 8 ≡ 0 → ⊥) → (bit_and m 4 ≡ 0 → ⊥) → map_of m ≡ B8000_32K
   unfolding field
-  map-b8000 e f = let n : m / 4 % 4 ≡ 3 = omega (arith, e, f, and_high m 1 3, and_high m 1 2, two-bits) in rw n
+  map_b8000 e f = let n : m / 4 % 4 ≡ 3 = omega (arith, e, f, and_high m 1 3, and_high m 1 2, two-bits) in rw n
 
 -- an answer that leaves things as they are is the same answer whatever they are
 pub left : {S T : Type 0} (n : ℕ) (v : Value) (a : Said) (s : S) (t : T) → outcome a s ≡ answered n v s s → outcome a t ≡ answered n v t t

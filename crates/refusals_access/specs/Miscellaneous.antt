@@ -1,5 +1,5 @@
 -- Short names for what the machine takes from Miscellaneous, over the register's byte: nothing is defined here that the machine has not.
-use Rattle.std.specs.Prelude.{ℕ, ◌%◌, Bool, [], ◌∷◌, get_or}
+use Rattle.std.specs.Prelude.{ℕ, ◌%◌, Bool, [], ◌∷◌, get_or, Option, Some, None}
 use Rattle.bits.specs.Bit.{bit, field, is_one, pick}
 use Rattle.machine_types.specs.declared.gc.MemoryMap.{MemoryMap}
 use Rattle.machine_types.specs.declared.gc.MemoryMap.TheVariants.{A0000_128k, A0000_64K, B0000_32K, B8000_32K}
@@ -15,6 +15,6 @@ chain_of b = is_one (bit 1 b)
 abbrev pub offset_of : ℕ → ℕ → Bool → ℕ
 offset_of b x page = mapped (map_of b) (chain_of b) x page % 65536
 
--- where an address leads: its offset, or past the last one where it is outside the window
-unfoldable pub leads_to : MemoryMap → Bool → ℕ → Bool → ℕ
-leads_to map chain x page = pick (in_window map x) (mapped map chain x page % 65536) 65536
+-- where an address leads: its offset, or nowhere where it is outside the window
+unfoldable pub leads_to : MemoryMap → Bool → ℕ → Bool → Option ℕ
+leads_to map chain x page = pick (in_window map x) (Some (mapped map chain x page % 65536)) None

@@ -1,66 +1,77 @@
 // From an address to a plane offset: the windows, the memory maps, chain odd/even and the page bit.
-ghost use Rattle.std.specs.Prelude.{◌≡◌, false, not, eqb, ltb};
+ghost use Rattle.std.specs.Prelude.{◌≡◌, ◌&&◌, false, leb, ltb};
 ghost use Rattle.bits.specs.Bit.{bit_of};
 ghost use Rattle.machine.specs.Answers.{two, outcome, answered, mapped_said};
 ghost use Rattle.machine.specs.Address.{in_window, a0};
 ghost use Rattle.machine.specs.Calls.{refuse};
 ghost use Rattle.refusals_access.specs.Miscellaneous.{map_of, chain_of, offset_of, leads_to};
 
-use machine_types::{MappedAnswer, MemoryMap, PlaneOffset, Refusal};
+use machine_types::{MemoryMap, PlaneOffset, Refusal};
 
-// No plane offset: one past the last.
-const OUTSIDE: usize = 0x10000;
+// Whether an address is in a window, both its ends included.
+fn within(first: usize, last: usize, address: usize) -> bool
+    ensures { result ≡ (leb first address && leb address last) }
+{
+    first <= address && address <= last
+}
 
 // 128K: under chain odd/even bit 0 becomes bit 16. The page bit plays no part.
-fn mapped_128k(chain: u8, address: usize) -> usize
-    ensures { result ≡ leads_to MemoryMap.A0000_128k (not (eqb chain 0)) address false }
+#[tactic(auto, using(crate::proofs::Windows::low_16, crate::proofs::Windows::bit_16_replaced), unfolding(crate::specs::Miscellaneous::leads_to, machine::specs::Address::in_window, machine::specs::Address::mapped))]
+fn mapped_128k(chain: bool, address: usize) -> Option<usize>
+    ensures { result ≡ leads_to MemoryMap.A0000_128k chain address false }
 {
-    if address < MemoryMap::WINDOW_128K_FIRST {
-        return OUTSIDE;
+    if !within(
+        MemoryMap::WINDOW_128K_FIRST,
+        MemoryMap::WINDOW_128K_LAST,
+        address,
+    ) {
+        return None;
     }
-    if address > MemoryMap::WINDOW_128K_LAST {
-        return OUTSIDE;
+    if chain {
+        return Some((address & 0xFFFE) | ((address >> 16) & 1));
     }
-    if chain == 0 {
-        return address & 0xFFFF;
-    }
-    (address & 0xFFFE) | ((address >> 16) & 1)
+    Some(address & 0xFFFF)
 }
 
 // 64K: under chain odd/even bit 0 becomes the page bit.
-fn mapped_64k(chain: u8, address: usize, page: bool) -> usize
-    ensures { result ≡ leads_to MemoryMap.A0000_64K (not (eqb chain 0)) address page }
+#[tactic(auto, using(crate::proofs::Windows::page_replaced, crate::proofs::Windows::from_first), unfolding(crate::specs::Miscellaneous::leads_to, machine::specs::Address::in_window, machine::specs::Address::mapped))]
+fn mapped_64k(chain: bool, address: usize, page: bool) -> Option<usize>
+    ensures { result ≡ leads_to MemoryMap.A0000_64K chain address page }
 {
-    if address < MemoryMap::WINDOW_64K_FIRST {
-        return OUTSIDE;
+    if !within(
+        MemoryMap::WINDOW_64K_FIRST,
+        MemoryMap::WINDOW_64K_LAST,
+        address,
+    ) {
+        return None;
     }
-    if address > MemoryMap::WINDOW_64K_LAST {
-        return OUTSIDE;
+    if chain {
+        return Some((address & 0xFFFE) | (page as usize));
     }
-    if chain == 0 {
-        return address - MemoryMap::WINDOW_64K_FIRST;
-    }
-    (address & 0xFFFE) | (page as usize)
+    Some(address - MemoryMap::WINDOW_64K_FIRST)
 }
 
 // B8000: chain odd/even and the page bit play no part.
-fn mapped_b8000(address: usize) -> usize
+#[tactic(auto, using(crate::proofs::Windows::from_first), unfolding(crate::specs::Miscellaneous::leads_to, machine::specs::Address::in_window, machine::specs::Address::mapped))]
+fn mapped_b8000(address: usize) -> Option<usize>
     ensures { result ≡ leads_to MemoryMap.B8000_32K false address false }
 {
-    if address < MemoryMap::WINDOW_B8000_FIRST {
-        return OUTSIDE;
+    if !within(
+        MemoryMap::WINDOW_B8000_FIRST,
+        MemoryMap::WINDOW_B8000_LAST,
+        address,
+    ) {
+        return None;
     }
-    if address > MemoryMap::WINDOW_B8000_LAST {
-        return OUTSIDE;
-    }
-    address - MemoryMap::WINDOW_B8000_FIRST
+    Some(address - MemoryMap::WINDOW_B8000_FIRST)
 }
 
 // By Miscellaneous, bits 2-3 for the map and bit 1 for chain odd/even: tests of its bits cost less than a match on the map.
-fn mapped(miscellaneous: u8, address: usize, page: bool) -> usize
+#[tactic(auto, using(crate::proofs::Windows::chain_is, crate::proofs::Windows::map_128k, crate::proofs::Windows::map_64k, crate::proofs::Windows::map_b0000, crate::proofs::Windows::map_b8000), unfolding(crate::specs::Miscellaneous::leads_to, machine::specs::Address::in_window, machine::specs::Address::mapped))]
+fn mapped(miscellaneous: u8, address: usize, page: bool) -> Option<usize>
     ensures { result ≡ leads_to (map_of miscellaneous) (chain_of miscellaneous) address page }
 {
-    let chain = miscellaneous & 2;
+    let chain = miscellaneous & 2 != 0;
     let at_a0000 = miscellaneous & 8 == 0;
     if at_a0000 {
         let whole = miscellaneous & 4 == 0;
@@ -72,36 +83,26 @@ fn mapped(miscellaneous: u8, address: usize, page: bool) -> usize
     // the map B0000 has no window
     let no_window = miscellaneous & 4 == 0;
     if no_window {
-        return OUTSIDE;
+        return None;
     }
     mapped_b8000(address)
 }
 
-// Refusals 6, 1, 2, 3 by the tests handed in, or the offset and a0, so that no address is mapped twice. It is handed no record: a call costs little.
-pub fn judge_address(
-    fits: bool,
-    shaped: bool,
+// Refusals 2, 3 by Miscellaneous and n, or the offset and a0, so that no address is mapped twice.
+#[tactic(auto, using(crate::proofs::Windows::is_outside, crate::proofs::Windows::is_inside, fields::proofs::Bit0::bit0_is))]
+pub fn judge_window(
     miscellaneous: u8,
     n: usize,
     address: usize,
     page: bool,
-) -> MappedAnswer
+) -> Result<(PlaneOffset, bool), Refusal>
     ensures { outcome (mapped_said result) address
-        ≡ answered (refuse fits 6 (refuse shaped 1 (refuse (in_window (map_of miscellaneous) address) 2 (refuse (ltb (offset_of miscellaneous address page) n) 3 0))))
+        ≡ answered (refuse (in_window (map_of miscellaneous) address) 2 (refuse (ltb (offset_of miscellaneous address page) n) 3 0))
         (two (offset_of miscellaneous address page) (bit_of (a0 address))) address address }
 {
-    if !fits {
-        return MappedAnswer::Refused(Refusal::State);
-    }
-    if !shaped {
-        return MappedAnswer::Refused(Refusal::Memory);
-    }
-    let at = mapped(miscellaneous, address, page);
-    if at == OUTSIDE {
-        return MappedAnswer::Refused(Refusal::Window);
-    }
+    let at = mapped(miscellaneous, address, page).ok_or(Refusal::Window)?;
     if at >= n {
-        return MappedAnswer::Refused(Refusal::Offset);
+        return Err(Refusal::Offset);
     }
-    MappedAnswer::Done(PlaneOffset(at), address & 1 == 1)
+    Ok((PlaneOffset(at), address & 1 == 1))
 }

@@ -3,46 +3,36 @@ ghost use Rattle.std.specs.Prelude.{◌≡◌, ltb};
 ghost use Rattle.machine.specs.Answers.{done_said};
 ghost use Rattle.machine.specs.Calls.{shows as shows_in, show_number, last_shown, pixels_number};
 
-use machine_types::{
-    DoneAnswer, GraphicsRegisters, PlaneOffset, Refusal, Sequencer, Shape, ShiftMode,
-};
-use refusals_memory::shaped;
-use refusals_records::fits_both;
+use machine_types::{GraphicsRegisters, PlaneOffset, Refusal, Sequencer, Shape, ShiftMode};
+use refusals_memory::judge_memory;
+use refusals_records::judge_both;
 
 // Whether the older show answers.
 fn shows(mode: ShiftMode) -> bool
     ensures { result ≡ shows_in mode }
 {
-    match mode {
-        ShiftMode::Standard => true,
-        ShiftMode::CGACompatible => false,
-        ShiftMode::Chain4 => false,
-        ShiftMode::Unused => true,
-    }
+    mode == ShiftMode::Standard || mode == ShiftMode::Unused
 }
 
 // Refusals 6, 1, 9, 5, of the older show.
+#[tactic(auto, unfolding(machine::specs::Calls::show_number))]
 pub fn judge_show(
     registers: GraphicsRegisters,
     seq: Sequencer,
     shape: Shape,
     offset: PlaneOffset,
-) -> DoneAnswer
+) -> Result<(), Refusal>
     ensures { (done_said result).number ≡ show_number registers seq shape offset.0 }
 {
-    if !fits_both(registers, seq) {
-        return DoneAnswer::Refused(Refusal::State);
-    }
-    if !shaped(shape) {
-        return DoneAnswer::Refused(Refusal::Memory);
-    }
+    judge_both(registers, seq)?;
+    judge_memory(shape)?;
     if !shows(fields::gc::shift_mode(registers)) {
-        return DoneAnswer::Refused(Refusal::Shift);
+        return Err(Refusal::Shift);
     }
     if offset.0 >= shape.p0 {
-        return DoneAnswer::Refused(Refusal::Place);
+        return Err(Refusal::Place);
     }
-    DoneAnswer::Done
+    Ok(())
 }
 
 // Whether planes of n bytes have all that a show looks at: the offset, and in `CGACompatible` the next one. No sum is made of an offset that is not below n.
@@ -63,22 +53,19 @@ fn within_planes(mode: ShiftMode, n: usize, offset: usize) -> bool
 }
 
 // Refusals 6, 1, 5, of the show that serves every shift mode.
+#[tactic(auto, unfolding(machine::specs::Calls::pixels_number))]
 pub fn judge_pixels(
     registers: GraphicsRegisters,
     seq: Sequencer,
     shape: Shape,
     offset: PlaneOffset,
-) -> DoneAnswer
+) -> Result<(), Refusal>
     ensures { (done_said result).number ≡ pixels_number registers seq shape offset.0 }
 {
-    if !fits_both(registers, seq) {
-        return DoneAnswer::Refused(Refusal::State);
-    }
-    if !shaped(shape) {
-        return DoneAnswer::Refused(Refusal::Memory);
-    }
+    judge_both(registers, seq)?;
+    judge_memory(shape)?;
     if within_planes(fields::gc::shift_mode(registers), shape.p0, offset.0) {
-        return DoneAnswer::Done;
+        return Ok(());
     }
-    DoneAnswer::Refused(Refusal::Place)
+    Err(Refusal::Place)
 }

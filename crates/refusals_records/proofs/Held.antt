@@ -14,11 +14,11 @@ use Rattle.machine.proofs.Laws.{both}
 abbrev pub joined : GraphicsRegisters → ℕ
 joined r = bit_or (bit_or (bit_or (bit_or r.register_select_byte r.set_reset) r.enable_set_reset) r.color_compare) r.color_dont_care
 
-pub fits-together : (r : GraphicsRegisters) → (leb (joined r) 15 && leb r.read_map_select 3) ≡ fits_gc r
+pub fits_together : (r : GraphicsRegisters) → (leb (joined r) 15 && leb r.read_map_select 3) ≡ fits_gc r
 unfolding fits_gc
-fits-together r =
+fits_together r =
     ap (λ (t : Bool). t && leb r.read_map_select 3) (five-within 4 r.register_select_byte r.set_reset r.enable_set_reset r.color_compare r.color_dont_care)
     ∙ simp and_right
 
-pub map-select-fits : (r : GraphicsRegisters) → fits_gc r ≡ true → r.read_map_select ≤ 3
-map-select-fits r e = leb-true _ _ (both (leb (joined r) 15) _ (fits-together r ∙ e)).1
+pub map_select_fits : (r : GraphicsRegisters) → fits_gc r ≡ true → r.read_map_select ≤ 3
+map_select_fits r e = leb-true _ _ (both (leb (joined r) 15) _ (fits_together r ∙ e)).1

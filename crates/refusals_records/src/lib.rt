@@ -4,9 +4,10 @@
 ghost use Rattle.std.specs.Prelude.{◌≡◌};
 ghost use Rattle.machine.specs.Graphics.{fits_gc};
 ghost use Rattle.machine.specs.Sequencer.{fits_seq};
-ghost use Rattle.machine.specs.Calls.{fits_both};
+ghost use Rattle.machine.specs.Answers.{done_said};
+ghost use Rattle.machine.specs.Calls.{refuse, fits_both};
 
-use machine_types::{GraphicsRegisters, Sequencer};
+use machine_types::{GraphicsRegisters, Refusal, Sequencer};
 
 // The controller's.
 pub fn fits_gc(registers: GraphicsRegisters) -> bool
@@ -18,46 +19,53 @@ pub fn fits_gc(registers: GraphicsRegisters) -> bool
         | registers.enable_set_reset
         | registers.color_compare
         | registers.color_dont_care;
-    let over = four_bits > 15;
-    if over {
-        return false;
-    }
-    let over_map_select = registers.read_map_select > 3;
-    if over_map_select {
-        return false;
-    }
-    true
+    let four_bits_fit = four_bits <= 15;
+    four_bits_fit && registers.read_map_select <= 3
 }
 
 // The sequencer's.
+#[tactic(auto, unfolding(machine::specs::Sequencer::fits_seq))]
 pub fn fits_seq(seq: Sequencer) -> bool
     ensures { result ≡ fits_seq seq }
 {
-    let over_reset = seq.reset > 3;
-    if over_reset {
-        return false;
-    }
-    let over_map_mask = seq.map_mask > 15;
-    if over_map_mask {
-        return false;
-    }
-    let over_clocking_mode = seq.clocking_mode > 63;
-    if over_clocking_mode {
-        return false;
-    }
-    let over_character_map = seq.character_map_select > 63;
-    if over_character_map {
-        return false;
-    }
-    seq.memory_mode <= 63
+    seq.reset <= 3
+        && seq.map_mask <= 15
+        && seq.clocking_mode <= 63
+        && seq.character_map_select <= 63
+        && seq.memory_mode <= 63
 }
 
 // Both records, of a call that is handed both.
+#[tactic(auto, unfolding(machine::specs::Calls::fits_both))]
 pub fn fits_both(registers: GraphicsRegisters, seq: Sequencer) -> bool
     ensures { result ≡ fits_both registers seq }
 {
-    if !fits_gc(registers) {
-        return false;
-    }
-    fits_seq(seq)
+    fits_gc(registers) && fits_seq(seq)
+}
+
+// Refusal 6, of a call that is handed the controller's record ..
+pub fn judge_gc(registers: GraphicsRegisters) -> Result<(), Refusal>
+    ensures { (done_said result).number ≡ refuse (fits_gc registers) 6 0 }
+{
+    refused_unless(fits_gc(registers))
+}
+
+// .. the sequencer's ..
+pub fn judge_seq(seq: Sequencer) -> Result<(), Refusal>
+    ensures { (done_said result).number ≡ refuse (fits_seq seq) 6 0 }
+{
+    refused_unless(fits_seq(seq))
+}
+
+// .. or both.
+pub fn judge_both(registers: GraphicsRegisters, seq: Sequencer) -> Result<(), Refusal>
+    ensures { (done_said result).number ≡ refuse (fits_both registers seq) 6 0 }
+{
+    refused_unless(fits_both(registers, seq))
+}
+
+fn refused_unless(fits: bool) -> Result<(), Refusal>
+    ensures { (done_said result).number ≡ refuse fits 6 0 }
+{
+    if fits { Ok(()) } else { Err(Refusal::State) }
 }

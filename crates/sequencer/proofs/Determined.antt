@@ -1,8 +1,8 @@
--- Any two outcomes that a call's contract permits for one input coincide: the answer itself, and each slice that the call may change. `Post` is each contract's own reading.
+-- Any two outcomes that a call's contract permits for one input coincide: the answer itself, and what is left behind the slices. `Post` is each contract's own reading.
 use contract.Lifetimes.{Lfts}
 use denote.Triple.Clauses.{AtExit}
 use borrow.Fn.Kinds.{Dens, ended_of}
-use Rattle.machine.specs.Memory.{Memory, mem}
+use Rattle.machine.specs.Memory.{Memory, lent}
 use Rattle.machine.proofs.Injective.{answer-of, next_of, store-injective}
 use Rattle.machine_types.proofs.OneAnswer.{OneOutcome}
 use Rattle.sequencer.proofs.direct.plane_set.Reads as plane-set
@@ -13,20 +13,20 @@ use Rattle.sequencer.proofs.direct.plane_or.Reads as plane-or
 use Rattle.sequencer.proofs.direct.plane_or.Kinds as plane-or-kinds
 
 -- what the three stores leave behind their five slices
-abbrev Stored : Lfts 5 → Type 0
-Stored κs = AtExit (ended_of 5 plane-set-kinds.ps plane-set-kinds.r) κs
+abbrev Stored : Lfts 2 → Type 0
+Stored κs = AtExit (ended_of 2 plane-set-kinds.ps plane-set-kinds.r) κs
 
-abbrev left : (κs : Lfts 5) → Stored κs → Memory
-left κs e = mem e.1.0.now e.1.1.0.now e.1.1.1.0.now e.1.1.1.1.0.now e.1.1.1.1.1.0.now
+abbrev left : (κs : Lfts 2) → Stored κs → Memory
+left κs e = lent e.1.0.now
 
-module _ (κs : Lfts 5) (a : Dens κs plane-set-kinds.ps) where
+module _ (κs : Lfts 2) (a : Dens κs plane-set-kinds.ps) where
   pub plane-set-determined : OneOutcome (plane-set.Post κs a) (left κs)
-  plane-set-determined r r' e e' p q = (store-injective r r' (answer-of p q), next_of p q)
+  plane-set-determined r r' e e' p q = (store-injective r r' (answer-of p.1 q.1), next_of p.1 q.1)
 
-module _ (κs : Lfts 5) (a : Dens κs plane-and-kinds.ps) where
+module _ (κs : Lfts 2) (a : Dens κs plane-and-kinds.ps) where
   pub plane-and-determined : OneOutcome (plane-and.Post κs a) (left κs)
-  plane-and-determined r r' e e' p q = (store-injective r r' (answer-of p q), next_of p q)
+  plane-and-determined r r' e e' p q = (store-injective r r' (answer-of p.1 q.1), next_of p.1 q.1)
 
-module _ (κs : Lfts 5) (a : Dens κs plane-or-kinds.ps) where
+module _ (κs : Lfts 2) (a : Dens κs plane-or-kinds.ps) where
   pub plane-or-determined : OneOutcome (plane-or.Post κs a) (left κs)
-  plane-or-determined r r' e e' p q = (store-injective r r' (answer-of p q), next_of p q)
+  plane-or-determined r r' e e' p q = (store-injective r r' (answer-of p.1 q.1), next_of p.1 q.1)

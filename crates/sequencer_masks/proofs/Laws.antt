@@ -26,9 +26,9 @@ pub cleared : (x : ℕ) → x < 2 ^ 64 → bit_and x (2 ^ 64 - 4) ≡ x / 4 * 4
 cleared x h = and_high x 62 2 ∙ ap (λ (q : ℕ). q * 4) (mod-eq_of_lt (omega arith))
 
 -- never past the offset that was judged
-pub gc-read-at-le : (s : Sequencer) (o : ℕ) → gc_read_at s o ≤ o
+pub gc_read_at_le : (s : Sequencer) (o : ℕ) → gc_read_at s o ≤ o
 unfolding gc_read_at stored_at
-gc-read-at-le s o = go (is_seq_odd_even (seq_odd_even s))
+gc_read_at_le s o = go (is_seq_odd_even (seq_odd_even s))
   where
     go : (b : Bool) → pick b o (stored_at s o) ≤ o
     go true = omega arith

@@ -1,14 +1,11 @@
--- Any two outcomes that a call's contract permits for one input coincide: the answer itself, and each slice that the call may change. `Post` is each contract's own reading.
--- A `&` slice is at exit what it was; of a part handed back the pixels are fixed, and that it is the caller's own picture follows from its lifetime.
-use Prim.Native.Nat.{ℕ}
-use mathlib.Core.Path.{◌≡◌, ap}
-use mathlib.Core.List.{List}
+-- Any two answers that a call's contract permits for one input coincide. `Post` is each contract's own reading. Lent to a read, memory is at exit what it was; of a part handed back the
+-- pixels are fixed, and that it is the caller's own picture follows from its lifetime.
+use mathlib.Core.Path.{◌≡◌}
 use contract.Lifetimes.{Lfts}
-use denote.Ref.{Bor}
 use denote.Triple.Clauses.{AtExit}
 use borrow.Fn.Kinds.{Dens, ended_of}
-use Rattle.machine.specs.Answers.{Said}
-use Rattle.machine.proofs.Injective.{answer-of, pixels-of, byte-injective, pixel-injective}
+use Rattle.machine_types.specs.declared.answer.Part.{Part}
+use Rattle.machine.proofs.Injective.{answer-of, older-injective, byte-injective, pixel-injective}
 use Rattle.machine_types.proofs.OneAnswer.{OneAnswer}
 use Rattle.sequencer_reads.proofs.cpu_read_u8.Reads as cpu-read-u8
 use Rattle.sequencer_reads.proofs.cpu_read_u8.Kinds as cpu-read-u8-kinds
@@ -21,24 +18,23 @@ use Rattle.sequencer_reads.proofs.read_linear.Kinds as read-linear-kinds
 use Rattle.sequencer_reads.proofs.serialize_linear.Reads as serialize-linear
 use Rattle.sequencer_reads.proofs.serialize_linear.Kinds as serialize-linear-kinds
 
-module _ (κs : Lfts 5) (a : Dens κs cpu-read-u8-kinds.ps) where
+module _ (κs : Lfts 3) (a : Dens κs cpu-read-u8-kinds.ps) where
   pub cpu-read-u8-determined : OneAnswer (cpu-read-u8.Post κs a)
   cpu-read-u8-determined r r' e e' p q = byte-injective r r' (answer-of p q)
 
-module _ (κs : Lfts 5) (a : Dens κs gc-read-u8-kinds.ps) where
+module _ (κs : Lfts 3) (a : Dens κs gc-read-u8-kinds.ps) where
   pub gc-read-u8-determined : OneAnswer (gc-read-u8.Post κs a)
   gc-read-u8-determined r r' e e' p q = byte-injective r r' (answer-of p q)
 
-module _ (κs : Lfts 5) (a : Dens κs peek-u8-kinds.ps) where
+module _ (κs : Lfts 3) (a : Dens κs peek-u8-kinds.ps) where
   pub peek-u8-determined : OneAnswer (peek-u8.Post κs a)
   peek-u8-determined r r' e e' p q = byte-injective r r' (answer-of p q)
 
-module _ (κs : Lfts 5) (a : Dens κs read-linear-kinds.ps) where
+module _ (κs : Lfts 3) (a : Dens κs read-linear-kinds.ps) where
   pub read-linear-determined : OneAnswer (read-linear.Post κs a)
   read-linear-determined r r' e e' p q = pixel-injective r r' (answer-of p q)
 
-module _ (κs : Lfts 6) (a : Dens κs serialize-linear-kinds.ps) where
-  pub serialize-linear-determined : (r r' : Bor (List ℕ)) (e e' : AtExit (ended_of 6 serialize-linear-kinds.ps serialize-linear-kinds.r) κs)
-      → serialize-linear.Post κs a r e → serialize-linear.Post κs a r' e'
-      → (r.now ≡ r'.now) × (e.1.1.1.1.1.1.1.0.now ≡ e'.1.1.1.1.1.1.1.0.now)
-  serialize-linear-determined r r' e e' p q = (pixels-of p q, ap (λ (s : Said). s.number) (answer-of p q))
+module _ (κs : Lfts 3) (a : Dens κs serialize-linear-kinds.ps) where
+  pub serialize-linear-determined : (r r' : Part) (e e' : AtExit (ended_of 3 serialize-linear-kinds.ps serialize-linear-kinds.r) κs)
+      → serialize-linear.Post κs a r e → serialize-linear.Post κs a r' e' → (r.answer ≡ r'.answer) × (r.pixels.now ≡ r'.pixels.now)
+  serialize-linear-determined r r' e e' p q = older-injective r r' (answer-of p q)

@@ -2,10 +2,9 @@
 use mathlib.Core.Path.{◌≡◌, ap₂}
 use contract.Lifetimes.{Lfts}
 use borrow.Fn.Kinds.{Dens}
-use Rattle.machine_types.specs.declared.answer.DoneAnswer.{DoneAnswer}
-use Rattle.machine_types.specs.declared.answer.FlagAnswer.{FlagAnswer}
-use Rattle.machine_types.specs.declared.answer.SequencerDone.{SequencerDone}
-use Rattle.machine_types.specs.declared.answer.SequencerFlag.{SequencerFlag}
+use Rattle.std.specs.Prelude.{Bool, Result}
+use Rattle.machine_types.specs.declared.answer.After.{After}
+use Rattle.machine_types.specs.declared.answer.Refusal.{Refusal}
 use Rattle.machine_types.specs.declared.seq.Sequencer.{Sequencer}
 use Rattle.machine.specs.Answers.{Outcome, outcome, done_said, flag_said}
 use Rattle.machine.proofs.Injective.{answer-of, next_of, byte-injective, done-injective, flag-injective, clock-injective}
@@ -28,13 +27,13 @@ use Rattle.sequencer_registers.proofs.registers.write_data.Reads as write-data
 use Rattle.sequencer_registers.proofs.registers.write_data.Kinds as write-data-kinds
 
 -- an answer with the record beside it
-done-of : {o : Outcome Sequencer} (r r' : SequencerDone) → outcome (done_said r.answer) r.seq ≡ o → outcome (done_said r'.answer) r'.seq ≡ o → r ≡ r'
+done-of : {o : Outcome Sequencer} (r r' : After Sequencer (Result Unit Refusal)) → outcome (done_said r.answer) r.next ≡ o → outcome (done_said r'.answer) r'.next ≡ o → r ≡ r'
 done-of r r' p q =
-    ap₂ (λ (a : DoneAnswer) (s : Sequencer). record { answer = a; seq = s }) (done-injective r.answer r'.answer (answer-of p q)) (next_of p q)
+    ap₂ (λ (a : Result Unit Refusal) (s : Sequencer). record { answer = a; next = s }) (done-injective r.answer r'.answer (answer-of p q)) (next_of p q)
 
-flag-of : {o : Outcome Sequencer} (r r' : SequencerFlag) → outcome (flag_said r.answer) r.seq ≡ o → outcome (flag_said r'.answer) r'.seq ≡ o → r ≡ r'
+flag-of : {o : Outcome Sequencer} (r r' : After Sequencer (Result Bool Refusal)) → outcome (flag_said r.answer) r.next ≡ o → outcome (flag_said r'.answer) r'.next ≡ o → r ≡ r'
 flag-of r r' p q =
-    ap₂ (λ (a : FlagAnswer) (s : Sequencer). record { answer = a; seq = s }) (flag-injective r.answer r'.answer (answer-of p q)) (next_of p q)
+    ap₂ (λ (a : Result Bool Refusal) (s : Sequencer). record { answer = a; next = s }) (flag-injective r.answer r'.answer (answer-of p q)) (next_of p q)
 
 module _ (κs : Lfts 0) (a : Dens κs reset-kinds.ps) where
   pub reset-determined : OneAnswer (reset.Post κs a)

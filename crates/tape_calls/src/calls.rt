@@ -1,14 +1,15 @@
 // A record performed: the calls that its command asks for, and what they answer.
 ghost use Rattle.std.specs.Prelude.{◌≡◌};
-ghost use Rattle.machine.specs.Memory.{mem};
-ghost use Rattle.machine.specs.Answers.{outcome, done_said};
-ghost use Rattle.machine.specs.Calls.{cpu_read, cpu_peek, cpu_write, show_pixels};
+ghost use Rattle.machine_types.specs.Slices.{SameSlices};
+ghost use Rattle.machine.specs.Memory.{seen, lent};
+ghost use Rattle.machine.specs.Answers.{outcome};
+ghost use Rattle.machine.specs.Calls.{cpu_peek, show_pixels};
 ghost use Rattle.machine.specs.Step.{state, cpu, step};
 ghost use Rattle.tape_machine.specs.Told.{told_said};
 ghost use Rattle.tape_machine.specs.Performs.{performed};
 
-use machine_types::{GraphicsController, GraphicsDone, PlaneOffset, Sequencer, SequencerDone};
-use tape_machine::{Told, of_answer, of_pixels, of_store};
+use machine_types::{After, GraphicsController, LentToRead, LentToStore, PlaneOffset, Sequencer};
+use tape_machine::Told;
 use tape_records::Command;
 
 // What was answered, and both records as they are left.
@@ -19,99 +20,49 @@ pub struct Performed {
     pub seq: Sequencer,
 }
 
-fn graphics_done(done: GraphicsDone, seq: Sequencer) -> Performed
-    ensures { (told_said result.told ≡ done_said done.answer) × (result.gc ≡ done.gc) × (result.seq ≡ seq) }
+// A call that leaves the sequencer's record as it was ..
+fn graphics_done<A>(after: After<GraphicsController, A>, seq: Sequencer) -> Performed
+where
+    Told: From<A>,
+    ensures told { ⟦<Told as From<A>>⟧.from_gives after.answer result.told }
+    ensures gc { result.gc ≡ after.next }
+    ensures seq { result.seq ≡ seq }
 {
-    let answer = done.answer;
-    let gc = done.gc;
     Performed {
-        told: of_answer(answers::of_done(answer)),
-        gc,
+        told: Told::from(after.answer),
+        gc: after.next,
         seq,
     }
 }
 
-fn sequencer_done(gc: GraphicsController, done: SequencerDone) -> Performed
-    ensures { (told_said result.told ≡ done_said done.answer) × (result.gc ≡ gc) × (result.seq ≡ done.seq) }
+// .. and one that leaves the controller's.
+fn sequencer_done<A>(gc: GraphicsController, after: After<Sequencer, A>) -> Performed
+where
+    Told: From<A>,
+    ensures told { ⟦<Told as From<A>>⟧.from_gives after.answer result.told }
+    ensures gc { result.gc ≡ gc }
+    ensures seq { result.seq ≡ after.next }
 {
-    let answer = done.answer;
-    let seq = done.seq;
     Performed {
-        told: of_answer(answers::of_done(answer)),
+        told: Told::from(after.answer),
         gc,
-        seq,
-    }
-}
-
-fn read(
-    gc: GraphicsController,
-    seq: Sequencer,
-    p0: &[u8],
-    p1: &[u8],
-    p2: &[u8],
-    p3: &[u8],
-    picture: &[u8],
-    address: usize,
-    page: bool,
-) -> Performed
-    ensures { outcome (told_said result.told) (state result.gc result.seq (mem p0.now p1.now p2.now p3.now picture.now))
-        ≡ step (state gc seq (mem p0.now p1.now p2.now p3.now picture.now)) (cpu (cpu_read address page)) }
-{
-    let got = graphics_controller::cpu_read_u8(gc, seq, p0, p1, p2, p3, picture, address, page);
-    let answer = got.answer;
-    let next = got.gc;
-    Performed {
-        told: of_answer(answers::of_byte(answer)),
-        gc: next,
-        seq,
+        seq: after.next,
     }
 }
 
 fn peek(
     gc: GraphicsController,
     seq: Sequencer,
-    p0: &[u8],
-    p1: &[u8],
-    p2: &[u8],
-    p3: &[u8],
-    picture: &[u8],
+    memory: &LentToRead,
     address: usize,
     page: bool,
 ) -> Performed
-    ensures { outcome (told_said result.told) (state result.gc result.seq (mem p0.now p1.now p2.now p3.now picture.now))
-        ≡ step (state gc seq (mem p0.now p1.now p2.now p3.now picture.now)) (cpu (cpu_peek address page)) }
+    ensures { outcome (told_said result.told) (state result.gc result.seq (seen memory.now)) ≡ step (state gc seq (seen memory.now)) (cpu (cpu_peek address page)) }
 {
-    let answer = graphics_controller::cpu_peek_u8(gc, seq, p0, p1, p2, p3, picture, address, page);
+    let byte = graphics_controller::cpu_peek_u8(gc, seq, memory, address, page);
     Performed {
-        told: of_answer(answers::of_byte(answer)),
+        told: Told::from(byte),
         gc,
-        seq,
-    }
-}
-
-fn write(
-    gc: GraphicsController,
-    seq: Sequencer,
-    p0: &mut [u8],
-    p1: &mut [u8],
-    p2: &mut [u8],
-    p3: &mut [u8],
-    picture: &mut [u8],
-    address: usize,
-    page: bool,
-    byte: u8,
-) -> Performed
-    ensures { outcome (told_said result.told) (state result.gc result.seq (mem p0.new p1.new p2.new p3.new picture.new))
-        ≡ step (state gc seq (mem p0.old p1.old p2.old p3.old picture.old)) (cpu (cpu_write address page byte)) }
-{
-    let wrote = graphics_controller::cpu_write_u8(
-        gc, seq, p0, p1, p2, p3, picture, address, page, byte,
-    );
-    let answer = wrote.answer;
-    let next = wrote.gc;
-    Performed {
-        told: of_store(answer),
-        gc: next,
         seq,
     }
 }
@@ -120,22 +71,15 @@ fn write(
 fn show(
     gc: GraphicsController,
     seq: Sequencer,
-    p0: &[u8],
-    p1: &[u8],
-    p2: &[u8],
-    p3: &[u8],
-    picture: &[u8],
+    memory: &LentToRead,
     offset: PlaneOffset,
 ) -> Performed
-    ensures { outcome (told_said result.told) (state result.gc result.seq (mem p0.now p1.now p2.now p3.now picture.now))
-        ≡ step (state gc seq (mem p0.now p1.now p2.now p3.now picture.now)) (cpu (show_pixels offset.0)) }
+    ensures { outcome (told_said result.told) (state result.gc result.seq (seen memory.now)) ≡ step (state gc seq (seen memory.now)) (cpu (show_pixels offset.0)) }
 {
     let mode = fields::gc::shift_mode(gc.registers);
-    let shown = graphics_controller::show_pixels(gc, seq, p0, p1, p2, p3, picture, offset);
-    let told = answers::of_shown(shown);
-    let pixels = told.pixels;
+    let pixels = graphics_controller::show_pixels(gc, seq, memory, offset);
     Performed {
-        told: of_pixels(mode, told.number, pixels),
+        told: Told::Pixels(mode, pixels),
         gc,
         seq,
     }
@@ -145,35 +89,38 @@ fn show(
 pub fn perform(
     gc: GraphicsController,
     seq: Sequencer,
-    p0: &mut [u8],
-    p1: &mut [u8],
-    p2: &mut [u8],
-    p3: &mut [u8],
-    picture: &mut [u8],
+    memory: &mut LentToStore,
     command: Command,
 ) -> Performed
-    ensures { outcome (told_said result.told) (state result.gc result.seq (mem p0.new p1.new p2.new p3.new picture.new))
-        ≡ performed (state gc seq (mem p0.old p1.old p2.old p3.old picture.old)) command }
+    ensures same_slices { SameSlices memory.old memory.new }
+    ensures does { outcome (told_said result.told) (state result.gc result.seq (lent memory.new)) ≡ performed (state gc seq (lent memory.old)) command }
 {
     match command {
         Command::Reset => Performed {
-            told: of_answer(answers::done()),
+            told: Told::from(Ok(())),
             gc: graphics_controller::reset(gc),
             seq: sequencer::reset(seq),
         },
-        Command::GcAddress(byte) => {
-            graphics_done(graphics_controller::write_address(gc, byte), seq)
-        }
+        Command::GcAddress(byte) => graphics_done(
+            graphics_controller::write_address(gc, byte),
+            seq,
+        ),
         Command::GcData(byte) => graphics_done(graphics_controller::write_data(gc, byte), seq),
         Command::SeqAddress(byte) => sequencer_done(gc, sequencer::write_address(seq, byte)),
         Command::SeqData(byte) => sequencer_done(gc, sequencer::write_data(seq, byte)),
-        Command::Read { address, page } => { read(gc, seq, p0, p1, p2, p3, picture, address, page) }
+        Command::Read { address, page } => graphics_done(
+            graphics_controller::cpu_read_u8(gc, seq, &memory.as_read(), address, page),
+            seq,
+        ),
         Command::Write {
             address,
             page,
             byte,
-        } => write(gc, seq, p0, p1, p2, p3, picture, address, page, byte),
-        Command::Peek { address, page } => { peek(gc, seq, p0, p1, p2, p3, picture, address, page) }
-        Command::Show(offset) => show(gc, seq, p0, p1, p2, p3, picture, offset),
+        } => graphics_done(
+            graphics_controller::cpu_write_u8(gc, seq, memory, address, page, byte),
+            seq,
+        ),
+        Command::Peek { address, page } => peek(gc, seq, &memory.as_read(), address, page),
+        Command::Show(offset) => show(gc, seq, &memory.as_read(), offset),
     }
 }

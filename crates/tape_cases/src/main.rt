@@ -7,21 +7,14 @@ fn main(rt: HostRuntime) {
     each(rt, &input[..count]);
 }
 
-fn each(rt: HostRuntime, tapes: &[u8]) {
-    let mut at: usize = 0;
-    while at < tapes.len() {
-        let from = at + 1;
-        let size = length(tapes[at]);
-        if size > tapes.len() - from {
+fn each(rt: HostRuntime, mut tapes: &[u8]) {
+    while let [length, rest @ ..] = tapes {
+        let length = usize::from(*length);
+        if length > rest.len() {
             return;
         }
-        let end = from + size;
-        tape_program::play_tape(rt, &tapes[from..end]);
-        streams::write_all(&mut rt.stdout(), b"=\n");
-        at = end;
+        tape_program::play_tape(rt, &rest[..length]);
+        let _ = streams::write_all(&mut rt.stdout(), b"=\n");
+        tapes = &rest[length..];
     }
-}
-
-fn length(byte: u8) -> usize {
-    byte as usize
 }

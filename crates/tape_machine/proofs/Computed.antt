@@ -7,9 +7,8 @@ use Rattle.machine.specs.Answers.{one, shown, said}
 use Rattle.machine.specs.Step.{State}
 use Rattle.machine.proofs.Computed.{computed}
 use Rattle.tape_numbers.specs.Numbers.{on_top, last_group, groups, number_of}
-use Rattle.tape_records.specs.declared.records.Operation.TheVariants.{Was}
-use Rattle.tape_records.specs.declared.records.Record.{Record}
-use Rattle.tape_records.specs.Records.{arguments, greatest_of, judged, argument_of, command_of, goes_on, third_of, second_of, first_of, started, record_of}
+use Rattle.std.specs.Prelude.{Some}
+use Rattle.tape_records.specs.Records.{Record, arguments, greatest_of, judged, argument_of, command_of, goes_on, third_of, second_of, first_of, started, record_of}
 use Rattle.tape_machine.specs.Performs.{performed}
 use Rattle.tape_machine.specs.Text.{digits_of, decimal_of, field_of, hex_of}
 use Rattle.tape_machine.specs.Lines.{name_of, value_text, line_of}
@@ -40,12 +39,12 @@ computed_lines s tape = let r = roomy_run tape s in take r.ran.written r.out
 -- its number, operation, answer, and a byte or 0
 unfoldable pub line : ℕ → ℕ → ℕ → ℕ → List ℕ
 unfolding computed_run
-line k operation number x = line_of k (Was operation) (said number (one x))
+line k operation number x = line_of k (Some operation) (said number (one x))
 
 -- .. of an accepted show, its pixels given; the shift mode is not told
 unfoldable pub digits_line : ℕ → List ℕ → List ℕ
 unfolding computed_run
-digits_line k l = line_of k (Was 8) (said 0 (shown Standard l))
+digits_line k l = line_of k (Some 8) (said 0 (shown Standard l))
 
 -- .. whose eight pixels are alike
 unfoldable pub show_line : ℕ → ℕ → List ℕ

@@ -4,11 +4,10 @@ use mathlib.Core.Path.{◌≡◌, refl}
 use mathlib.Core.List.{List, [], ◌∷◌}
 use lib.ListN.{replicate}
 use Rattle.machine_types.specs.declared.answer.Refusal.TheVariants.{Room}
-use Rattle.machine_types.specs.declared.answer.DoneAnswer.TheVariants.{Refused}
+use Rattle.std.specs.Prelude.{Some, Err}
 use Rattle.tape_records.specs.declared.records.Command.TheVariants.{Reset}
 use Rattle.tape_records.specs.declared.records.Fault.TheVariants.{Range}
-use Rattle.tape_records.specs.declared.records.Operation.TheVariants.{Was}
-use Rattle.tape_records.specs.declared.records.Record.TheVariants.{Whole, Broken}
+use Rattle.tape_records.specs.Records.{whole, broken}
 use Rattle.tape_machine.specs.Run.{tape_run, ran_to}
 use Rattle.tape_machine.specs.Program.{tape_start}
 use Rattle.tape_machine.proofs.Computed.{computed_records, computed_run, computed_lines}
@@ -39,7 +38,7 @@ unfolding computed_lines tape_start document_tape document_lines
 document-01 = refl
 
 -- a broken record stops a tape that goes on: a reset, an operation of 9, and what could be another reset
-pub stopped : computed_records (0 ∷ 9 ∷ 0 ∷ []) ≡ Whole Reset 1 ∷ Broken (Was 9) Range ∷ []
+pub stopped : computed_records (0 ∷ 9 ∷ 0 ∷ []) ≡ whole Reset 1 ∷ broken (Some 9) Range ∷ []
 unfolding computed_records
 stopped = refl
 
@@ -49,6 +48,6 @@ unfolding computed_run tape_start
 roomed = (refl, refl)
 
 -- .. and with a byte less: nothing is done
-pub no_room : computed_run (0 ∷ []) tape_start (replicate 83 7) ≡ tape_run (ran_to (Refused Room) 0 tape_start) tape_start.memory (replicate 83 7)
+pub no_room : computed_run (0 ∷ []) tape_start (replicate 83 7) ≡ tape_run (ran_to (Err Room) 0 tape_start) tape_start.memory (replicate 83 7)
 unfolding computed_run
 no_room = refl

@@ -4,45 +4,45 @@ use Prim.Native.Nat.{ℕ}
 use mathlib.Core.Path.{◌≡◌, refl}
 use mathlib.Core.List.{List, [], ◌∷◌}
 use Rattle.machine_types.specs.declared.gc.ShiftMode.TheVariants.{Standard, CGACompatible, Chain4, Unused}
-use Rattle.tape_records.specs.declared.records.Operation.TheVariants.{Unread, Was}
+use Rattle.std.specs.Prelude.{Some, None, Ok, Err}
+use Rattle.machine_types.specs.declared.answer.Refusal.TheVariants.{Offset, Place}
 use Rattle.tape_records.specs.declared.records.Fault.TheVariants.{Open, Damage, Range as OutOfRange}
-use Rattle.tape_machine.specs.declared.told.Eight.{Eight}
-use Rattle.tape_machine.specs.declared.told.Handed.TheVariants.{Byte, Pixels, Changes}
+use Rattle.tape_machine.specs.declared.told.Told.TheVariants.{Byte, Pixels, Changes}
 use Rattle.tape_machine.specs.Told.{told_said}
 use Rattle.tape_machine.specs.Text.{digits_of, decimal_of, field_of, hex_of}
 use Rattle.tape_machine.specs.Lines.{name_of, value_text, line_of}
 use Rattle.tape_machine.specs.Run.{fault_said}
 
 -- every digit, in two times eight pixels, and eight times 0
-lower : Eight
-lower = record { a = 0; b = 1; c = 2; d = 3; e = 10; f = 11; g = 12; h = 15 }
+lower : List ℕ
+lower = 0 ∷ 1 ∷ 2 ∷ 3 ∷ 10 ∷ 11 ∷ 12 ∷ 15 ∷ []
 
-upper : Eight
-upper = record { a = 4; b = 5; c = 6; d = 7; e = 8; f = 9; g = 13; h = 14 }
+upper : List ℕ
+upper = 4 ∷ 5 ∷ 6 ∷ 7 ∷ 8 ∷ 9 ∷ 13 ∷ 14 ∷ []
 
-zeros : Eight
-zeros = record { a = 0; b = 0; c = 0; d = 0; e = 0; f = 0; g = 0; h = 0 }
+zeros : List ℕ
+zeros = 0 ∷ 0 ∷ 0 ∷ 0 ∷ 0 ∷ 0 ∷ 0 ∷ 0 ∷ []
 
 -- what the definitions give, with each open
 unfoldable pub lines : List (List ℕ)
 unfolding digits_of decimal_of field_of hex_of name_of value_text line_of lower upper zeros
 lines =
-    line_of 1 Unread (fault_said Open)
-    ∷ line_of 20 (Was 9) (fault_said OutOfRange)
-    ∷ line_of 3 (Was 5) (fault_said Damage)
-    ∷ line_of 4 (Was 8) (told_said (record { number = 0; handed = Pixels Standard lower }))
-    ∷ line_of 7 (Was 8) (told_said (record { number = 0; handed = Pixels Chain4 upper }))
-    ∷ line_of 5 (Was 8) (told_said (record { number = 5; handed = Pixels CGACompatible zeros }))
-    ∷ line_of 6 (Was 5) (told_said (record { number = 0; handed = Byte 255 }))
-    ∷ line_of 8 (Was 6) (told_said (record { number = 0; handed = Changes (record { p0 = 8; p1 = 8; p2 = 8; p3 = 8 }) }))
-    ∷ line_of 9 (Was 6) (told_said (record { number = 3; handed = Changes (record { p0 = 0; p1 = 0; p2 = 0; p3 = 0 }) }))
+    line_of 1 None (fault_said Open)
+    ∷ line_of 20 (Some 9) (fault_said OutOfRange)
+    ∷ line_of 3 (Some 5) (fault_said Damage)
+    ∷ line_of 4 (Some 8) (told_said (Pixels Standard (Ok lower)))
+    ∷ line_of 7 (Some 8) (told_said (Pixels Chain4 (Ok upper)))
+    ∷ line_of 5 (Some 8) (told_said (Pixels CGACompatible (Err Place)))
+    ∷ line_of 6 (Some 5) (told_said (Byte (Ok 255)))
+    ∷ line_of 8 (Some 6) (told_said (Changes (Ok (record { p0 = 8; p1 = 8; p2 = 8; p3 = 8 }))))
+    ∷ line_of 9 (Some 6) (told_said (Changes (Err Offset)))
     -- eight zeros, answered in each mode and refused
-    ∷ line_of 1 (Was 8) (told_said (record { number = 0; handed = Pixels Standard zeros }))
-    ∷ line_of 2 (Was 8) (told_said (record { number = 0; handed = Pixels CGACompatible zeros }))
-    ∷ line_of 3 (Was 8) (told_said (record { number = 0; handed = Pixels Chain4 zeros }))
-    ∷ line_of 4 (Was 8) (told_said (record { number = 0; handed = Pixels Unused zeros }))
-    ∷ line_of 5 (Was 8) (told_said (record { number = 5; handed = Pixels Standard zeros }))
-    ∷ line_of 6 (Was 8) (told_said (record { number = 5; handed = Pixels Chain4 zeros }))
+    ∷ line_of 1 (Some 8) (told_said (Pixels Standard (Ok zeros)))
+    ∷ line_of 2 (Some 8) (told_said (Pixels CGACompatible (Ok zeros)))
+    ∷ line_of 3 (Some 8) (told_said (Pixels Chain4 (Ok zeros)))
+    ∷ line_of 4 (Some 8) (told_said (Pixels Unused (Ok zeros)))
+    ∷ line_of 5 (Some 8) (told_said (Pixels Standard (Err Place)))
+    ∷ line_of 6 (Some 8) (told_said (Pixels Chain4 (Err Place)))
     ∷ []
 
 -- what the document says, a character a number

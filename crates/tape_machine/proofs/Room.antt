@@ -8,11 +8,8 @@ use lib.ListN.{length, take, length-append, length-map, length-take}
 use Rattle.bits.specs.Bit.{pick}
 use Rattle.machine.specs.Answers.{Value, one, two, pixel, part, changes, shown, Said}
 use Rattle.machine.specs.Step.{State}
-use Rattle.tape_records.specs.declared.records.Operation.{Operation}
-use Rattle.tape_records.specs.declared.records.Operation.TheVariants.{Unread, Was}
-use Rattle.tape_records.specs.declared.records.Record.{Record}
-use Rattle.tape_records.specs.declared.records.Record.TheVariants.{Whole, Broken}
-use Rattle.tape_records.specs.Records.{record_of}
+use Rattle.std.specs.Prelude.{Option, Some, None, Ok, Err}
+use Rattle.tape_records.specs.Records.{Record, record_of}
 use Rattle.tape_machine.specs.Text.{digits_of, decimal_of, field_of, hex_of, hexes_of}
 use Rattle.tape_machine.specs.Lines.{name_of, value_text, line_of}
 use Rattle.tape_machine.specs.Run.{longest, up_to_stop, records_after, records_of, record_line, left, lines_of}
@@ -35,10 +32,10 @@ field-length : (n : ℕ) → length (field_of n) ≤ 21
 unfolding field_of
 field-length n = omega (arith, decimal-length n, length-append (decimal_of n) (32 ∷ []))
 
-name-length : (o : Operation) → length (name_of o) ≤ 21
+name-length : (o : Option ℕ) → length (name_of o) ≤ 21
 unfolding name_of
-name-length Unread = omega arith
-name-length (Was n) = field-length n
+name-length None = omega arith
+name-length (Some n) = field-length n
 
 shown-length : (t : Bool) (l : List ℕ) → length (pick t (hexes_of (take 8 l)) (decimal_of 0)) ≤ 20
 shown-length true l = omega (arith, length-map (take 8 l) hex_of, length-take 8 l)
@@ -53,7 +50,7 @@ value-length n (part l) = decimal-length 0
 value-length n (changes a b c d) = decimal-length 0
 value-length n (shown d l) = shown-length (eqb n 0) l
 
-line-length : (k : ℕ) (o : Operation) (a : Said) → length (line_of k o a) ≤ longest
+line-length : (k : ℕ) (o : Option ℕ) (a : Said) → length (line_of k o a) ≤ longest
 unfolding line_of
 line-length k o a =
     omega (
@@ -70,8 +67,8 @@ line-length k o a =
 
 record-line-length : (k : ℕ) (s : State) (r : Record) → length (record_line k s r) ≤ longest
 unfolding record_line
-record-line-length k s (Whole x n) = line-length k _ _
-record-line-length k s (Broken o f) = line-length k o _
+record-line-length k s (Ok r) = line-length k _ _
+record-line-length k s (Err r) = line-length k r.operation _
 
 lines-length : (k : ℕ) (s : State) (rs : List Record) → length (lines_of k s rs) ≤ longest * length rs
 unfolding lines_of
@@ -81,14 +78,18 @@ lines-length k s (r ∷ rs) =
 
 more-length : (r : Record) (rest : ℕ → List Record) (m : ℕ) → ((n : ℕ) → length (rest n) ≤ m) → length (up_to_stop r rest) ≤ suc m
 unfolding up_to_stop
-more-length (Whole x n) rest m h = omega (arith, h (n - 1))
-more-length (Broken o f) rest m h = omega arith
+more-length (Ok r) rest m h = omega (arith, h (r.taken - 1))
+more-length (Err r) rest m h = omega arith
 
 records-length : (n : ℕ) (s : List ℕ) → length (records_after n s) ≤ length s
 unfolding records_after
 records-length n [] = omega arith
 records-length zero (b ∷ s) = more-length (record_of (b ∷ s)) (λ n. records_after n s) (length s) (λ n. records-length n s)
 records-length (suc n) (b ∷ s) = omega (arith, records-length n s)
+
+pub few_records : (tape : List ℕ) → length (records_of tape) ≤ length tape
+unfolding records_of
+few_records tape = records-length 0 tape
 
 pub enough-room : (s : State) (tape : List ℕ) (room : ℕ) → longest * length tape ≤ room → length (lines_of 1 s (records_of tape)) ≤ room
 unfolding records_of

@@ -4,7 +4,7 @@ use mathlib.Core.Path.{◌≡◌, refl}
 use mathlib.Core.List.{List, [], ◌∷◌, ◌++◌}
 use lib.ListN.{length, replicate}
 use Rattle.machine_types.specs.declared.answer.Refusal.TheVariants.{Room}
-use Rattle.machine_types.specs.declared.answer.DoneAnswer.TheVariants.{Refused}
+use Rattle.std.specs.Prelude.{Err}
 use Rattle.tape_machine.specs.Run.{ran_to}
 use Rattle.tape_machine.specs.Program.{tape_start, Printed, printed, printed_of}
 use Rattle.tape_machine.proofs.Computed.{computed_run, line, show_line}
@@ -42,6 +42,6 @@ unfolding computed_printed starting starting_said
 start-rules = (refl, refl)
 
 -- .. and with a byte less: refusal 10, and nothing is done
-pub start-no-room : computed_printed starting (replicate 6131 7) ≡ printed (ran_to (Refused Room) 0 tape_start) (replicate 6131 7)
+pub start-no-room : computed_printed starting (replicate 6131 7) ≡ printed (ran_to (Err Room) 0 tape_start) (replicate 6131 7)
 unfolding computed_printed starting
 start-no-room = refl

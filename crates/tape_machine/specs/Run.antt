@@ -1,10 +1,9 @@
 -- A whole run: the records of a tape, the lines that they say, and the state that they leave, over the machine's `step`.
-use Rattle.std.specs.Prelude.{ℕ, zero, suc, ◌+◌, ◌-◌, ◌*◌, List, [], ◌∷◌, ◌++◌, leb, length}
+use Rattle.std.specs.Prelude.{ℕ, zero, suc, ◌+◌, ◌-◌, ◌*◌, List, [], ◌∷◌, ◌++◌, leb, length, Some, Result, Ok, Err}
 use Rattle.std.proofs.lemmas.List.Edits.{sets}
 use Rattle.bits.specs.Bit.{pick}
+use Rattle.machine_types.specs.declared.answer.Refusal.{Refusal}
 use Rattle.machine_types.specs.declared.answer.Refusal.TheVariants.{Damaged, Range, Room}
-use Rattle.machine_types.specs.declared.answer.DoneAnswer.{DoneAnswer}
-use Rattle.machine_types.specs.declared.answer.DoneAnswer.TheVariants.{Done, Refused}
 use Rattle.machine_types.specs.declared.gc.GraphicsController.{GraphicsController}
 use Rattle.machine_types.specs.declared.seq.Sequencer.{Sequencer}
 use Rattle.machine.specs.Memory.{Memory}
@@ -14,11 +13,8 @@ use Rattle.tape_records.specs.declared.records.Command.{Command}
 use Rattle.tape_records.specs.declared.records.Command.TheVariants.{Reset, GcAddress, GcData, SeqAddress, SeqData, Read, Write, Peek, Show}
 use Rattle.tape_records.specs.declared.records.Fault.{Fault}
 use Rattle.tape_records.specs.declared.records.Fault.TheVariants.{Open, Damage, Range as OutOfRange}
-use Rattle.tape_records.specs.declared.records.Operation.TheVariants.{Was}
-use Rattle.tape_records.specs.declared.records.Record.{Record}
-use Rattle.tape_records.specs.declared.records.Record.TheVariants.{Whole, Broken}
 use Rattle.tape_machine.specs.declared.ran.Ran.{Ran}
-use Rattle.tape_records.specs.Records.{record_of}
+use Rattle.tape_records.specs.Records.{Record, record_of}
 use Rattle.tape_machine.specs.Performs.{performed}
 use Rattle.tape_machine.specs.Lines.{line_of}
 
@@ -26,8 +22,8 @@ use Rattle.tape_machine.specs.Lines.{line_of}
 
 -- a record, and after a whole one what follows it; a broken one ends the tape
 unfoldable pub up_to_stop : Record → (ℕ → List Record) → List Record
-up_to_stop (Whole x n) rest = Whole x n ∷ rest (n - 1)
-up_to_stop (Broken o f) rest = Broken o f ∷ []
+up_to_stop (Ok r) rest = Ok r ∷ rest (r.taken - 1)
+up_to_stop (Err r) rest = Err r ∷ []
 
 -- the records of bytes of which the first `skip` belong to the record before
 unfoldable pub records_after : ℕ → List ℕ → List Record
@@ -61,13 +57,13 @@ fault_said OutOfRange = said (refusal_number Range) (one 0)
 
 -- the line of a record that is number k and finds the machine at s
 unfoldable pub record_line : ℕ → State → Record → List ℕ
-record_line k s (Whole x n) = line_of k (Was (operation_number x)) (performed s x).answer
-record_line k s (Broken o f) = line_of k o (fault_said f)
+record_line k s (Ok r) = line_of k (Some (operation_number r.command)) (performed s r.command).answer
+record_line k s (Err r) = line_of k r.operation (fault_said r.fault)
 
 -- a 7 or 8 undoes no record before it
 unfoldable pub left : State → Record → State
-left s (Whole x n) = (performed s x).next
-left s (Broken o f) = s
+left s (Ok r) = (performed s r.command).next
+left s (Err r) = s
 
 -- ---- the whole run
 
@@ -93,10 +89,10 @@ tape_run r m o = record { ran = r; memory = m; out = o }
 
 -- a run that had room
 abbrev pub ended_of : ℕ → GraphicsController → Sequencer → Ran
-ended_of n g s = record { answer = Done; written = n; gc = g; seq = s }
+ended_of n g s = record { answer = Ok tt; written = n; gc = g; seq = s }
 
 -- .. and any run: its answer, the bytes written, the records of the state that it leaves
-abbrev pub ran_to : DoneAnswer → ℕ → State → Ran
+abbrev pub ran_to : Result Unit Refusal → ℕ → State → Ran
 ran_to a n s = record { answer = a; written = n; gc = s.gc; seq = s.seq }
 
 -- the lines stand at the start of `out`, whose other bytes stay
@@ -104,7 +100,7 @@ unfoldable pub played_of : List ℕ → State → List ℕ → TapeRun
 played_of tape s out =
     let lines = lines_of 1 s (records_of tape) in
     let end = ending s (records_of tape) in
-    tape_run (ran_to Done (length lines) end) end.memory (sets out 0 lines)
+    tape_run (ran_to (Ok tt) (length lines) end) end.memory (sets out 0 lines)
 
 -- the longest line: four numbers of at most 20 digits, and what parts them
 abbrev pub longest : ℕ
@@ -112,4 +108,4 @@ longest = 84
 
 -- `out` has to hold the longest line for each byte of the tape, else nothing is done
 unfoldable pub run_of : List ℕ → State → List ℕ → TapeRun
-run_of tape s out = pick (leb (longest * length tape) (length out)) (played_of tape s out) (tape_run (ran_to (Refused Room) 0 s) s.memory out)
+run_of tape s out = pick (leb (longest * length tape) (length out)) (played_of tape s out) (tape_run (ran_to (Err Room) 0 s) s.memory out)

@@ -1,21 +1,10 @@
 -- What a record's answer says, in the machine's numbers and values.
-use Rattle.std.specs.Prelude.{List, [], ◌∷◌, ℕ}
-use Rattle.machine.specs.Answers.{Value, one, changed_value, shown, Said, said}
-use Rattle.tape_machine.specs.declared.told.Eight.{Eight}
-use Rattle.tape_machine.specs.declared.told.Handed.{Handed}
-use Rattle.tape_machine.specs.declared.told.Handed.TheVariants.{Byte, Pixels, Changes}
+use Rattle.machine.specs.Answers.{Said, byte_said, shown_said, store_said}
 use Rattle.tape_machine.specs.declared.told.Told.{Told}
+use Rattle.tape_machine.specs.declared.told.Told.TheVariants.{Byte, Pixels, Changes}
 
--- the eight pixels of a show, as a list
-abbrev pub eight_pixels : Eight → List ℕ
-eight_pixels x = x.a ∷ x.b ∷ x.c ∷ x.d ∷ x.e ∷ x.f ∷ x.g ∷ x.h ∷ []
-
--- what was handed back, as the machine's value: a byte, a show's shift mode and pixels, or a write's four numbers
-abbrev pub handed_value : Handed → Value
-handed_value (Byte x) = one x
-handed_value (Pixels d x) = shown d (eight_pixels x)
-handed_value (Changes x) = changed_value x
-
--- an answer as the machine's number and value
+-- an answer as the machine's number and value: a byte, a show's shift mode and pixels, or a write's four numbers
 abbrev pub told_said : Told → Said
-told_said t = said t.number (handed_value t.handed)
+told_said (Byte r) = byte_said r
+told_said (Pixels d r) = shown_said d r
+told_said (Changes r) = store_said r

@@ -5,4 +5,4 @@ mod ran;
 mod told;
 
 pub use ran::Ran;
-pub use told::{Eight, Handed, Told, of_answer, of_pixels, of_store};
+pub use told::Told;

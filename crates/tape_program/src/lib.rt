@@ -14,17 +14,15 @@ pub fn play_tape(rt: HostRuntime, tape: &[u8]) {
     // the longest line for each byte of the longest tape
     let mut lines = [0u8; 1376256];
     let ran = tape_reader::run_from_start(tape, &mut lines);
-    emit(rt, &lines, ran.written);
+    emit(rt, &lines[..ran.written]);
 }
 
-// Writes the first bytes of a text; where that fails, a line to standard error says so, and there is no other sign.
-fn emit(rt: HostRuntime, text: &[u8], count: usize) {
-    if count <= text.len() {
-        if !streams::write_all(&mut rt.stdout(), &text[..count]) {
-            streams::write_all(
-                &mut rt.stderr(),
-                b"tape: standard output could not be written\n",
-            );
-        }
+// Writes a text; where that fails, a line to standard error says so, and there is no other sign.
+fn emit(rt: HostRuntime, text: &[u8]) {
+    if streams::write_all(&mut rt.stdout(), text).is_err() {
+        let _ = streams::write_all(
+            &mut rt.stderr(),
+            b"tape: standard output could not be written\n",
+        );
     }
 }

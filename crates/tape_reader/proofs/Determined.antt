@@ -5,7 +5,7 @@ use mathlib.Core.List.{List}
 use contract.Lifetimes.{Lfts}
 use denote.Triple.Clauses.{AtExit}
 use borrow.Fn.Kinds.{Dens, ended_of}
-use Rattle.machine.specs.Memory.{Memory, mem}
+use Rattle.machine.specs.Memory.{Memory, lent}
 use Rattle.tape_machine.specs.declared.ran.Ran.{Ran}
 use Rattle.tape_machine.specs.Run.{TapeRun}
 use Rattle.tape_machine.specs.Program.{Printed}
@@ -15,21 +15,21 @@ use Rattle.tape_reader.proofs.whole.run.Kinds as run-kinds
 use Rattle.tape_reader.proofs.program.run_from_start.Reads as run-from-start
 use Rattle.tape_reader.proofs.program.run_from_start.Kinds as run-from-start-kinds
 
-module _ (κs : Lfts 7) (a : Dens κs run-kinds.ps) where
+module _ (κs : Lfts 4) (a : Dens κs run-kinds.ps) where
   abbrev Played : Type 0
-  Played = AtExit (ended_of 7 run-kinds.ps run-kinds.r) κs
+  Played = AtExit (ended_of 4 run-kinds.ps run-kinds.r) κs
 
   abbrev after : Played → Memory
-  after e = mem e.1.1.1.0.now e.1.1.1.1.0.now e.1.1.1.1.1.0.now e.1.1.1.1.1.1.0.now e.1.1.1.1.1.1.1.0.now
+  after e = lent e.1.1.1.0.now
 
   abbrev text : Played → List ℕ
-  text e = e.1.1.1.1.1.1.1.1.0.now
+  text e = e.1.1.1.1.0.now
 
   pub run-determined : (r r' : Ran) (e e' : Played) → run.Post κs a r e → run.Post κs a r' e' → (r ≡ r') × (after e ≡ after e') × (text e ≡ text e')
   run-determined r r' e e' p q = (
-    ap (λ (o : TapeRun). o.ran) (p ∙ sym q),
-    ap (λ (o : TapeRun). o.memory) (p ∙ sym q),
-    ap (λ (o : TapeRun). o.out) (p ∙ sym q),
+    ap (λ (o : TapeRun). o.ran) (p.1 ∙ sym q.1),
+    ap (λ (o : TapeRun). o.memory) (p.1 ∙ sym q.1),
+    ap (λ (o : TapeRun). o.out) (p.1 ∙ sym q.1),
   )
 
 -- from the program's start; the memory ends with the call

@@ -1,4 +1,4 @@
 pub mod Texts
-pub mod Lining
+pub mod Tapes
 pub mod Runs
 pub mod Determined

@@ -1,17 +1,29 @@
--- Texts written one after the other, the digits of a number, the digit of a pixel.
+-- Texts written one after the other, and the digits of a number.
 use Prim.Native.Nat.{ℕ, zero, suc, ◌+◌, ◌/◌, ◌%◌, ◌^◌, ◌≤◌, ◌<◌}
-use native.Mathlib.Nat.{add-zero, add-suc, suc-add, add_assoc, div-lt_iff_lt-mul, pow-suc, mod-eq_of_lt}
+use native.Mathlib.Nat.{add-zero, add-suc, suc-add, add_assoc, div-lt_iff_lt-mul, pow-suc}
 use native.Mathlib.Omega.{arith}
 use mathlib.Core.Path.{◌≡◌, ap, sym, ◌∙◌}
 use mathlib.Core.List.{List, [], ◌∷◌, ◌++◌}
-use lib.Bits.{bit_and, and_mask}
 use lib.Dec.{ltb, lit<}
-use lib.ListN.{length, get_or, length-append}
+use lib.ListN.{length, get_or, take, length-append, length-map, length-take}
 use lib.Seq.{sets, length-sets}
-use borrow.Author.Tests.{lt-ltb, le-ltb}
+use borrow.Author.Tests.{lt-ltb, le-ltb, ne_eqb}
+use Rattle.std.specs.Prelude.{Result, Ok, Err}
+use Rattle.std.specs.Result.{result_unwrap_or}
 use Rattle.bits.specs.Bit.{pick}
 use Rattle.bits.proofs.Decide.{agree1}
-use Rattle.tape_machine.specs.Text.{digits_of, decimal_of, hex_digits, hex_of, Put}
+use Rattle.tape_machine.specs.Text.{digits_of, decimal_of, hex_digits, hex_of, hexes_of}
+use Rattle.machine_types.specs.declared.answer.Refusal.{Refusal}
+use Rattle.machine_types.specs.declared.answer.Changed.{Changed}
+use Rattle.machine_types.specs.declared.gc.ShiftMode.{ShiftMode}
+use Rattle.machine.specs.Answers.{refusal_number}
+use Rattle.machine.proofs.Laws.{refusal-some}
+use Rattle.tape_machine.specs.declared.told.Told.{Told}
+use Rattle.tape_machine.specs.declared.told.Told.TheVariants.{Byte, Pixels, Changes}
+use Rattle.tape_machine.specs.Told.{told_said}
+use Rattle.tape_machine.specs.Lines.{value_text}
+use Rattle.tape_reader.specs.declared.text.Text.{Text}
+use Rattle.tape_reader.specs.Writes.{HasRoom, Writes}
 
 -- ---- one text after another
 
@@ -19,22 +31,24 @@ pub sets-append : (l : List ℕ) (i : ℕ) (a b : List ℕ) → sets l i (a ++ b
 sets-append l i [] b = rw (add-zero i)
 sets-append l i (x ∷ a) b = rw (add-suc i (length a), ← suc-add i (length a)) (sets-append _ (suc i) a b)
 
-pub put_then : {l m k a b : List ℕ} {at r q : ℕ} → Put l at a m r → Put m r b k q → Put l at (a ++ b) k q
-put_then {l} {m} {k} {a} {b} {at} {r} {q} f g = record {
-  wrote = g.wrote ∙ rw (f.wrote, f.ends) (sym (sets-append l at a b));
-  ends = g.ends ∙ rw (f.ends, length-append a b) (add_assoc at (length a) (length b));
+pub writes_then : {a b : List ℕ} {x y z : Text} → Writes a x y → Writes b y z → Writes (a ++ b) x z
+writes_then {a} {b} {x} f g = record {
+  same = f.same ∙ g.same;
+  put = record {
+    wrote = g.put.wrote ∙ rw (f.put.wrote, f.put.ends) (sym (sets-append x.out.now x.at a b));
+    ends = g.put.ends ∙ rw (f.put.ends, length-append a b) (add_assoc x.at (length a) (length b));
+  };
 }
 
--- room for what comes after
-pub put-room : (b : List ℕ) {l m a : List ℕ} {at r : ℕ} → Put l at a m r → at + length (a ++ b) ≤ length l → r + length b ≤ length m
-put-room b {l} {m} {a} {at} {r} f h = rw (f.wrote, f.ends, length-sets l at a) (omega (arith, length-append a b))
+-- room for the first of two, and for what comes after
+pub first_room : {a : List ℕ} (b : List ℕ) {x : Text} → HasRoom (a ++ b) x → HasRoom a x
+first_room {a} b h = record { room = omega (arith, h.room, length-append a b) }
 
-pub put-length : {l m a : List ℕ} {at r : ℕ} → Put l at a m r → length m ≡ length l
-put-length {l} {m} {a} {at} f = rw f.wrote (length-sets l at a)
+pub more_room : (a : List ℕ) {b : List ℕ} {x y : Text} → HasRoom (a ++ b) x → Writes a x y → HasRoom b y
+more_room a {b} {x} h f = record { room = rw (f.put.wrote, f.put.ends, length-sets x.out.now x.at a) (omega (arith, h.room, length-append a b)) }
 
--- room for the first of two
-pub first-room : (at n : ℕ) (a b : List ℕ) → at + length (a ++ b) ≤ n → at + length a ≤ n
-first-room at n a b h = omega (arith, length-append a b)
+pub writes_length : {a : List ℕ} {x y : Text} → Writes a x y → length y.out.now ≡ length x.out.now
+writes_length {a} {x} f = rw f.put.wrote (length-sets x.out.now x.at a)
 
 -- ---- decimal
 
@@ -47,21 +61,47 @@ enough (suc k) n h =
     ap (λ (l : List ℕ). pick (ltb n 10) [] l ++ ((48 + n % 10) ∷ [])) (enough k (n / 10) d)
 
 -- the two equations of decimal digits
-pub decimal-small : (n : ℕ) → n < 10 → decimal_of n ≡ (48 + n) ∷ []
+pub decimal_small : (n : ℕ) → n < 10 → decimal_of n ≡ (48 + n % 10) ∷ []
 unfolding decimal_of digits_of
-decimal-small n h = rw (lt-ltb n 10 h, mod-eq_of_lt h)
+decimal_small n h = rw (lt-ltb n 10 h)
 
-pub decimal-more : (n : ℕ) → 10 ≤ n → n < 2 ^ 64 → decimal_of n ≡ decimal_of (n / 10) ++ ((48 + n % 10) ∷ [])
+pub decimal_more : (n : ℕ) → 10 ≤ n → n < 2 ^ 64 → decimal_of n ≡ decimal_of (n / 10) ++ ((48 + n % 10) ∷ [])
 unfolding decimal_of digits_of
-decimal-more n h f =
+decimal_more n h f =
     let d : n / 10 < 10 ^ 19 = omega arith in
     rw (le-ltb n 10 h) (ap (λ (l : List ℕ). l ++ ((48 + n % 10) ∷ [])) (sym (enough 18 (n / 10) d)))
 
 -- ---- a pixel's digit
 
-digit-so : (m : ℕ) → m < 16 → pick (ltb m 10) (48 + m) (55 + m) ≡ get_or hex_digits m 48
-digit-so = agree1 16 (λ m. pick (ltb m 10) (48 + m) (55 + m)) (λ m. get_or hex_digits m 48) tt
+pub digit_so : (m : ℕ) → m < 16 → get_or hex_digits m 0 ≡ get_or hex_digits m 48
+digit_so = agree1 16 (λ m. get_or hex_digits m 0) (λ m. get_or hex_digits m 48) tt
 
-pub hex-so : (x : ℕ) → pick (ltb (bit_and x 15) 10) (48 + bit_and x 15) (55 + bit_and x 15) ≡ hex_of x
-unfolding hex_of
-hex-so x = rw (and_mask x 4) (digit-so (x % 16) (omega arith))
+-- room for each of eight digits
+pub next_room : (l : List ℕ) (i d : ℕ) {x y : Text} → length l ≡ 8 → i < 8 → HasRoom (hexes_of (take 8 l)) x → Writes (hexes_of (take i l)) x y → HasRoom (d ∷ []) y
+next_room l i d {x} e h room f = record {
+  room = rw (f.put.wrote, f.put.ends, length-sets x.out.now x.at (hexes_of (take i l)))
+      (omega (arith, room.room, length-map (take 8 l) hex_of, length-map (take i l) hex_of, length-take 8 l, length-take i l));
+}
+
+-- ---- what a record's answer tells
+
+abbrev pub told_text : Told → List ℕ
+told_text t = value_text (told_said t).number (told_said t).value
+
+pub byte_text : {t : Told} {r : Result ℕ Refusal} → t ≡ Byte r → told_text t ≡ decimal_of (result_unwrap_or r 0)
+unfolding value_text
+byte_text {r = Ok x} e = rw e
+byte_text {r = Err f} e = rw e
+
+pub pixels_text : {t : Told} {d : ShiftMode} {r : Result (List ℕ) Refusal} {l : List ℕ} → t ≡ Pixels d r → r ≡ Ok l → told_text t ≡ hexes_of (take 8 l)
+unfolding value_text
+pixels_text e f = rw (e, f)
+
+pub refused_text : {t : Told} {d : ShiftMode} {r : Result (List ℕ) Refusal} {f : Refusal} → t ≡ Pixels d r → r ≡ Err f → told_text t ≡ decimal_of 0
+unfolding value_text
+refused_text {f = f} e g = rw (e, g, ne_eqb (refusal_number f) 0 (λ q. omega (arith, refusal-some f)))
+
+pub changes_text : {t : Told} {r : Result Changed Refusal} → t ≡ Changes r → told_text t ≡ decimal_of 0
+unfolding value_text
+changes_text {r = Ok x} e = rw e
+changes_text {r = Err f} e = rw e

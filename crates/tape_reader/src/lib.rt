@@ -3,10 +3,11 @@
 
 mod lines;
 mod program;
+mod records;
 mod text;
 mod whole;
 
 pub use program::run_from_start;
 pub use tape_calls::{Performed, perform};
-pub use tape_machine::{Eight, Handed, Ran, Told};
+pub use tape_machine::{Ran, Told};
 pub use whole::{LONGEST, run};

@@ -1,68 +1,58 @@
-// Text, written into a lent slice from a place on; each function answers the place after what it wrote.
-ghost use Rattle.std.specs.Prelude.{◌≡◌, [], ◌∷◌, ◌+◌, ◌<◌, ◌≤◌, length};
-ghost use Rattle.tape_machine.specs.Told.{eight_pixels};
-ghost use Rattle.tape_machine.specs.Text.{decimal_of, field_of, hex_of, hexes_of, Put};
+// Text, written into a lent slice that has room for it.
+ghost use Rattle.std.specs.Prelude.{◌≡◌, [], ◌∷◌, take};
+ghost use Rattle.tape_machine.specs.Text.{decimal_of, field_of, hex_of, hexes_of};
+ghost use Rattle.tape_reader.specs.Writes.{HasRoom, Writes};
 
-use tape_machine::Eight;
-
-pub fn put(out: &mut [u8], at: usize, byte: u8) -> usize
-    requires { at < length out.old }
-    ensures { Put out.old at (byte ∷ []) out.new result }
-{
-    out[at] = byte;
-    at + 1
+// A slice, and the place after what was written into it.
+#[derive(Drop)]
+pub struct Text<'a> {
+    pub out: &'a mut [u8],
+    pub at: usize,
 }
 
-// A number in decimal.
-pub fn decimal(number: u64, out: &mut [u8], at: usize) -> usize
-    requires { at + length (decimal_of number) ≤ length out.old }
-    ensures { Put out.old at (decimal_of number) out.new result }
-{
-    if number < 10 {
-        return put(out, at, 48 + number as u8);
+impl Text<'_> {
+    pub fn put(&mut self, byte: u8)
+        requires { HasRoom (byte ∷ []) self.old }
+        ensures { Writes (byte ∷ []) self.old self.new }
+    {
+        self.out[self.at] = byte;
+        self.at += 1;
     }
-    let place = decimal(number / 10, out, at);
-    put(out, place, 48 + (number % 10) as u8)
+
+    // A number in decimal.
+    pub fn decimal(&mut self, number: u64)
+        requires { HasRoom (decimal_of number) self.old }
+        ensures { Writes (decimal_of number) self.old self.new }
+    {
+        if number >= 10 {
+            self.decimal(number / 10);
+        }
+        self.put(b'0' + (number % 10) as u8);
+    }
+
+    // A number in decimal, and the blank after it.
+    pub fn field(&mut self, number: u64)
+        requires { HasRoom (field_of number) self.old }
+        ensures { Writes (field_of number) self.old self.new }
+    {
+        self.decimal(number);
+        self.put(b' ');
+    }
+
+    // A show's pixels, a digit each.
+    pub fn digits(&mut self, pixels: [u8; 8])
+        requires { HasRoom (hexes_of (take 8 pixels)) self.old }
+        ensures { Writes (hexes_of (take 8 pixels)) self.old self.new }
+    {
+        for pixel in pixels {
+            self.put(digit(pixel));
+        }
+    }
 }
 
-// A number in decimal, and the blank after it.
-pub fn field(number: u64, out: &mut [u8], at: usize) -> usize
-    requires { at + length (field_of number) ≤ length out.old }
-    ensures { Put out.old at (field_of number) out.new result }
-{
-    let place = decimal(number, out, at);
-    put(out, place, b' ')
-}
-
-// The digit of a pixel's low four bits: 0 to 9, A to F.
+// The digit of a pixel's low four bits.
 fn digit(pixel: u8) -> u8
     ensures { result ≡ hex_of pixel }
 {
-    let low = pixel & 15;
-    if low < 10 { 48 + low } else { 55 + low }
-}
-
-fn two_digits(a: u8, b: u8, out: &mut [u8], at: usize) -> usize
-    requires { at + 2 ≤ length out.old }
-    ensures { Put out.old at (hexes_of (a ∷ b ∷ [])) out.new result }
-{
-    let place = put(out, at, digit(a));
-    put(out, place, digit(b))
-}
-
-fn four_digits(a: u8, b: u8, c: u8, d: u8, out: &mut [u8], at: usize) -> usize
-    requires { at + 4 ≤ length out.old }
-    ensures { Put out.old at (hexes_of (a ∷ b ∷ c ∷ d ∷ [])) out.new result }
-{
-    let place = two_digits(a, b, out, at);
-    two_digits(c, d, out, place)
-}
-
-// A show's eight pixels, a digit each.
-pub fn eight_digits(eight: Eight, out: &mut [u8], at: usize) -> usize
-    requires { at + 8 ≤ length out.old }
-    ensures { Put out.old at (hexes_of (eight_pixels eight)) out.new result }
-{
-    let place = four_digits(eight.a, eight.b, eight.c, eight.d, out, at);
-    four_digits(eight.e, eight.f, eight.g, eight.h, out, place)
+    b"0123456789ABCDEF"[usize::from(pixel & 15)]
 }

@@ -1,6 +1,7 @@
 // A tape's records, read from a slice. Nothing is performed here.
 #![tactic(auto)]
 
+mod arguments;
 mod records;
 
-pub use records::{Command, Fault, Operation, Record, decode};
+pub use records::{Broken, Command, Fault, Record, Whole, decode};

@@ -1,10 +1,8 @@
--- Any two outcomes that a call's contract permits for one input coincide: the answer itself, and each slice that the call may change. `Post` is each contract's own reading.
--- A `&` slice is at exit what it was.
-use mathlib.Core.Path.{ap}
+-- Any two outcomes that a call's contract permits for one input coincide: the answer itself, and what is left behind the slices. `Post` is each contract's own reading.
 use contract.Lifetimes.{Lfts}
 use denote.Triple.Clauses.{AtExit}
 use borrow.Fn.Kinds.{Dens, ended_of}
-use Rattle.machine.specs.Memory.{Memory, mem}
+use Rattle.machine.specs.Memory.{Memory, lent, remade_in}
 use Rattle.machine.proofs.Injective.{answer-of, next_of, store-injective, done-injective}
 use Rattle.machine_types.proofs.OneAnswer.{OneOutcome}
 use Rattle.vram.proofs.write_u8.Reads as write-u8
@@ -18,29 +16,29 @@ use Rattle.vram.proofs.plane_and.Kinds as plane-and-kinds
 use Rattle.vram.proofs.plane_or.Reads as plane-or
 use Rattle.vram.proofs.plane_or.Kinds as plane-or-kinds
 
--- what the four stores leave behind their five slices
-abbrev Stored : Lfts 5 → Type 0
-Stored κs = AtExit (ended_of 5 plane-set-kinds.ps plane-set-kinds.r) κs
+-- what the four stores leave behind their five slices, and `deplane` behind the picture's
+abbrev left : (κs : Lfts 2) → AtExit (ended_of 2 plane-set-kinds.ps plane-set-kinds.r) κs → Memory
+left κs e = lent e.0.now
 
-abbrev left : (κs : Lfts 5) → Stored κs → Memory
-left κs e = mem e.0.now e.1.0.now e.1.1.0.now e.1.1.1.0.now e.1.1.1.1.0.now
+abbrev left-by-deplane : (κs : Lfts 3) → AtExit (ended_of 3 deplane-kinds.ps deplane-kinds.r) κs → Memory
+left-by-deplane κs e = remade_in e.0.now
 
-module _ (κs : Lfts 5) (a : Dens κs write-u8-kinds.ps) where
+module _ (κs : Lfts 2) (a : Dens κs write-u8-kinds.ps) where
   pub write-u8-determined : OneOutcome (write-u8.Post κs a) (left κs)
-  write-u8-determined r r' e e' p q = (store-injective r r' (answer-of p q), next_of p q)
+  write-u8-determined r r' e e' p q = (store-injective r r' (answer-of p.1 q.1), next_of p.1 q.1)
 
-module _ (κs : Lfts 5) (a : Dens κs deplane-kinds.ps) where
-  pub deplane-determined : OneOutcome (deplane.Post κs a) (λ e. e.1.1.1.1.0.now)
-  deplane-determined r r' e e' p q = (done-injective r r' (answer-of p q), ap (λ (m : Memory). m.picture) (next_of p q))
+module _ (κs : Lfts 3) (a : Dens κs deplane-kinds.ps) where
+  pub deplane-determined : OneOutcome (deplane.Post κs a) (left-by-deplane κs)
+  deplane-determined r r' e e' p q = (done-injective r r' (answer-of p.1 q.1), next_of p.1 q.1)
 
-module _ (κs : Lfts 5) (a : Dens κs plane-set-kinds.ps) where
+module _ (κs : Lfts 2) (a : Dens κs plane-set-kinds.ps) where
   pub plane-set-determined : OneOutcome (plane-set.Post κs a) (left κs)
-  plane-set-determined r r' e e' p q = (store-injective r r' (answer-of p q), next_of p q)
+  plane-set-determined r r' e e' p q = (store-injective r r' (answer-of p.1 q.1), next_of p.1 q.1)
 
-module _ (κs : Lfts 5) (a : Dens κs plane-and-kinds.ps) where
+module _ (κs : Lfts 2) (a : Dens κs plane-and-kinds.ps) where
   pub plane-and-determined : OneOutcome (plane-and.Post κs a) (left κs)
-  plane-and-determined r r' e e' p q = (store-injective r r' (answer-of p q), next_of p q)
+  plane-and-determined r r' e e' p q = (store-injective r r' (answer-of p.1 q.1), next_of p.1 q.1)
 
-module _ (κs : Lfts 5) (a : Dens κs plane-or-kinds.ps) where
+module _ (κs : Lfts 2) (a : Dens κs plane-or-kinds.ps) where
   pub plane-or-determined : OneOutcome (plane-or.Post κs a) (left κs)
-  plane-or-determined r r' e e' p q = (store-injective r r' (answer-of p q), next_of p q)
+  plane-or-determined r r' e e' p q = (store-injective r r' (answer-of p.1 q.1), next_of p.1 q.1)

@@ -22,8 +22,8 @@ sum_same (suc n) f g h = ap₂ (λ (a b : ℕ). a + b) (h 0) (sum_same n (λ i. 
 differ-changed : (a b : ℕ) → a < 2 → b < 2 → differ a b ≡ pick (eqb a b) 0 1
 differ-changed = agree2 2 2 differ (λ a b. pick (eqb a b) 0 1) tt
 
-pub ones-changed : (old new : ℕ) → old < 256 → new < 256 → ones (bit_xor old new) ≡ changed_bits old new
+pub ones_changed : (old new : ℕ) → old < 256 → new < 256 → ones (bit_xor old new) ≡ changed_bits old new
 unfolding changed_bits
-ones-changed old new h l =
+ones_changed old new h l =
     ones-summed (bit_xor old new) (xor8 old new h l)
     ∙ sum_same 8 (λ i. bit i (bit_xor old new)) (changed_bit old new) (λ i. bit-xor i old new ∙ differ-changed (bit i old) (bit i new) (bit-lt i old) (bit-lt i new))

@@ -1,5 +1,5 @@
 // What the crates above may call, and a host may not: functions that ask something of their caller, who has judged the plane.
-ghost use Rattle.std.specs.Prelude.{◌≡◌, ◌≤◌, eqb};
+ghost use Rattle.std.specs.Prelude.{◌≡◌, ◌≤◌, nat_eq};
 ghost use Rattle.bits.specs.Bit.{pick};
 ghost use Rattle.machine.specs.Answers.{changes_of, changed_value};
 ghost use Rattle.machine.specs.Deeds.{changed_bits};
@@ -8,6 +8,7 @@ ghost use Rattle.vram_changes.specs.Numbers.{none_changed};
 use machine_types::Changed;
 
 // How many of a byte's eight bits changed.
+#[tactic(auto, using(crate::proofs::Ones::ones_changed))]
 pub fn changed_bits(old: u8, new: u8) -> u8
     ensures { result ≡ changed_bits old new }
 {
@@ -29,21 +30,14 @@ pub fn unchanged() -> Changed
 // One plane changed, by so many bits.
 pub fn in_plane(plane: usize, number: u8) -> Changed
     requires { plane ≤ 3 }
-    ensures { changed_value result ≡ changes_of (λ q. pick (eqb q plane) number 0) }
+    ensures { changed_value result ≡ changes_of (λ q. pick (nat_eq q plane) number 0) }
 {
     let mut changed = unchanged();
-    if plane == 0 {
-        changed.p0 = number;
-        return changed;
+    match plane {
+        0 => changed.p0 = number,
+        1 => changed.p1 = number,
+        2 => changed.p2 = number,
+        _ => changed.p3 = number,
     }
-    if plane == 1 {
-        changed.p1 = number;
-        return changed;
-    }
-    if plane == 2 {
-        changed.p2 = number;
-        return changed;
-    }
-    changed.p3 = number;
     changed
 }

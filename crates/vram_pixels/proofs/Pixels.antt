@@ -1,10 +1,9 @@
 -- Which byte of a turned word is which pixel: eight bytes of it stored one by one are the machine's eight remade.
-use Prim.Native.Nat.{ℕ, ◌+◌, ◌-◌, ◌*◌, ◌<◌}
+use Prim.Native.Nat.{ℕ, ◌-◌, ◌*◌, ◌<◌}
 use native.Mathlib.Omega.{arith}
-use native.Mathlib.Numerals.{towards_suc}
-use mathlib.Core.Path.{◌≡◌, ap, ◌∙◌}
+use mathlib.Core.Path.{◌≡◌, ap}
 use mathlib.Core.List.{List}
-use lib.ListN.{get_or, set}
+use lib.ListN.{get_or}
 use lib.Seq.{sets}
 use Rattle.bits.specs.Bit.{bit, field, of_bits}
 use Rattle.bits.proofs.Laws.{bit-lt, of_lt}
@@ -29,11 +28,7 @@ module _ (m : Memory) (o w : ℕ) (is : w ≡ of_bytes (turned (loaded m o))) wh
   unfolding pixel_of loaded across of_bits
   pixels-are = rw (byte-is 7, byte-is 6, byte-is 5, byte-is 4, byte-is 3, byte-is 2, byte-is 1, byte-is 0)
 
-  -- .. and so, stored one by one from byte 7 down, they are the eight remade
-  pub remade-eight : (i a b c d e f g h : ℕ) → i ≡ 8 * o
-      → a ≡ field 56 8 w → b ≡ field 48 8 w → c ≡ field 40 8 w → d ≡ field 32 8 w → e ≡ field 24 8 w → f ≡ field 16 8 w → g ≡ field 8 8 w → h ≡ field 0 8 w
-      → mem m.p0 m.p1 m.p2 m.p3
-      (set (set (set (set (set (set (set (set m.picture i a) (i + 1) b) (i + 2) c) (i + 3) d) (i + 4) e) (i + 5) f) (i + 6) g) (i + 7) h) ≡ remade o m
+  -- .. and so, stored from byte 7 down, they are the eight remade
+  pub remade-eight : (i : ℕ) (l : List ℕ) → i ≡ 8 * o → l ≡ sets m.picture i (eight (λ j. field (8 * (7 - j)) 8 w)) → mem m.p0 m.p1 m.p2 m.p3 l ≡ remade o m
   unfolding remade
-  remade-eight i a b c d e f g h ei ea eb ec ed ee ef eg eh =
-      rw (ei, ea, eb, ec, ed, ee, ef, eg, eh) (simp towards_suc) ∙ ap (λ (l : List ℕ). mem m.p0 m.p1 m.p2 m.p3 (sets m.picture (8 * o) l)) pixels-are
+  remade-eight i l ei el = rw (el, ei) (ap (λ (e : List ℕ). mem m.p0 m.p1 m.p2 m.p3 (sets m.picture (8 * o) e)) pixels-are)

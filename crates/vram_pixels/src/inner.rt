@@ -2,11 +2,15 @@
 ghost use Rattle.std.specs.Prelude.{◌≡◌, [], ◌∷◌, ◌+◌, ◌*◌, ◌^◌, ◌<◌, ◌≤◌, length, take, drop};
 ghost use Rattle.std.specs.Int.Bits.{bit_and};
 ghost use Rattle.bits.specs.Bit.{bit, field, of_bits};
-ghost use Rattle.machine.specs.Memory.{mem, Shaped};
-ghost use Rattle.machine.specs.Deeds.{remade};
+ghost use Rattle.std.specs.Prelude.{◌-◌};
+ghost use Rattle.std.proofs.lemmas.List.Edits.{sets};
+ghost use Rattle.machine_types.specs.Slices.{SamePicture};
+ghost use Rattle.machine.specs.Memory.{behind, Shaped};
+ghost use Rattle.machine.specs.Answers.{part, done_said, said_by, older_said};
+ghost use Rattle.machine.specs.Deeds.{remade, eight as eight_of};
 ghost use Rattle.vram_pixels.specs.Word.{of_bytes, turned, came_from};
 
-use machine_types::{PixelPlace, PlaneOffset};
+use machine_types::{Bytes, Lent, Part, PixelPlace, PlaneOffset, Refusal};
 
 // The place of the first of an offset's eight pixels: the one conversion between the two counts.
 pub fn first_pixel(offset: PlaneOffset) -> PixelPlace
@@ -25,6 +29,23 @@ pub fn eight<'p>(picture: &'p [u8], offset: PlaneOffset) -> &'p [u8]
     let place = first.0;
     let end = place + 8;
     &picture[place..end]
+}
+
+// A show's answer, and the part that goes with it: an offset's eight pixels, or an empty part where it is refused.
+pub fn part<'p>(picture: &'p [u8], offset: PlaneOffset, answer: Result<(), Refusal>) -> Part<'p>
+    requires { (done_said answer).number ≡ 0 → (offset.0 ≤ 65535) × (8 * offset.0 + 8 ≤ length picture.now) }
+    ensures { older_said result ≡ said_by (λ x. part (take 8 (drop (8 * offset.0) picture.now))) (part []) answer }
+{
+    match answer {
+        Ok(()) => Part {
+            answer,
+            pixels: eight(picture, offset),
+        },
+        Err(_) => Part {
+            answer,
+            pixels: &picture[0..0],
+        },
+    }
 }
 
 // Four planes' bytes in one word: plane p's is byte p.
@@ -70,18 +91,11 @@ fn byte_of(word: u64, j: u8) -> u8
     ((word >> (8 * j)) & 0xFF) as u8
 }
 
-// An offset's eight pixels remade: pixel i has bit 7 - i of each plane, and is byte 7 - i of the turned word.
-pub fn remake(p0: &[u8], p1: &[u8], p2: &[u8], p3: &[u8], picture: &mut [u8], at: usize)
-    requires { Shaped (mem p0.now p1.now p2.now p3.now picture.old) × (at < length p0.now) }
-    ensures { mem p0.now p1.now p2.now p3.now picture.new ≡ remade at (mem p0.now p1.now p2.now p3.now picture.old) }
+// The eight bytes of a word, stored from its byte 7 down.
+fn put_eight(picture: &mut [u8], place: usize, pixels: u64)
+    requires { place + 8 ≤ length picture.old }
+    ensures { picture.new ≡ sets picture.old place (eight_of (λ i. field (8 * (7 - i)) 8 pixels)) }
 {
-    let b0 = p0[at];
-    let b1 = p1[at];
-    let b2 = p2[at];
-    let b3 = p3[at];
-    let first = first_pixel(PlaneOffset(at));
-    let place = first.0;
-    let pixels = turn(b0, b1, b2, b3);
     picture[place] = byte_of(pixels, 7);
     picture[place + 1] = byte_of(pixels, 6);
     picture[place + 2] = byte_of(pixels, 5);
@@ -90,4 +104,18 @@ pub fn remake(p0: &[u8], p1: &[u8], p2: &[u8], p3: &[u8], picture: &mut [u8], at
     picture[place + 5] = byte_of(pixels, 2);
     picture[place + 6] = byte_of(pixels, 1);
     picture[place + 7] = byte_of(pixels, 0);
+}
+
+// An offset's eight pixels remade, of planes lent in either way: pixel i has bit 7 - i of each plane, and is byte 7 - i of the turned word.
+pub fn remake<P: Bytes>(memory: &mut Lent<P, &mut [u8]>, at: usize)
+    requires { Shaped (behind P.bytes (λ s. s.now) memory.old) × (at < length (P.bytes memory.old.p0)) }
+    ensures same_slices { SamePicture memory.old memory.new }
+    ensures does { behind P.bytes (λ s. s.now) memory.new ≡ remade at (behind P.bytes (λ s. s.now) memory.old) }
+{
+    let b0 = memory.p0.byte(at);
+    let b1 = memory.p1.byte(at);
+    let b2 = memory.p2.byte(at);
+    let b3 = memory.p3.byte(at);
+    let first = first_pixel(PlaneOffset(at));
+    put_eight(memory.picture, first.0, turn(b0, b1, b2, b3));
 }

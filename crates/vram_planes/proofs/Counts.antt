@@ -14,8 +14,8 @@ use Rattle.machine.specs.Deeds.{byte, laid, remade, changed_bits, changed_at}
 use Rattle.machine.proofs.Changes.{remade-changed, laid-changed}
 
 -- what was put down is what is found there
-pub put-down : (l : List ℕ) (o new n : ℕ) → o < length l → n ≡ changed_bits (get_or l o 0) new → n ≡ changed_bits (get_or l o 0) (get_or (set l o new) o 0)
-put-down l o new n h e = e ∙ ap (changed_bits (get_or l o 0)) (sym (get_or-set_same l o new 0 h))
+pub put_down : (l : List ℕ) (o new n : ℕ) → o < length l → n ≡ changed_bits (get_or l o 0) new → n ≡ changed_bits (get_or l o 0) (get_or (set l o new) o 0)
+put_down l o new n h e = e ∙ ap (changed_bits (get_or l o 0)) (sym (get_or-set_same l o new 0 h))
 
 module _ (o p : ℕ) (b : ℕ → ℕ) (m m' : Memory) (h : Shaped m) (l : o < length m.p0) (e : m' ≡ laid o (λ q. eqb q p) b m) (n : ℕ) (en : n ≡ changed_at m m' o p) where
   at : (q : ℕ) → q < 4 → pick (eqb q p) n 0 ≡ changed_at m (remade o m') o q
@@ -32,6 +32,6 @@ module _ (o p : ℕ) (b : ℕ → ℕ) (m m' : Memory) (h : Shaped m) (l : o < l
   one-plane = rw (at 0 (lit< tt), at 1 (lit< tt), at 2 (lit< tt), at 3 (lit< tt))
 
   -- the pixels remade: what is left, and the four numbers of it
-  pub one-stored : (m'' : Memory) (v : Value) → m'' ≡ remade o m' → v ≡ changes_of (λ q. pick (eqb q p) n 0)
+  pub one_stored : (m'' : Memory) (v : Value) → m'' ≡ remade o m' → v ≡ changes_of (λ q. pick (eqb q p) n 0)
       → (m'' ≡ remade o (laid o (λ q. eqb q p) b m)) × (v ≡ changes_of (changed_at m m'' o))
-  one-stored m'' v left ev = (left ∙ ap (remade o) e, ev ∙ one-plane ∙ ap (λ (k : Memory). changes_of (changed_at m k o)) (sym left))
+  one_stored m'' v left ev = (left ∙ ap (remade o) e, ev ∙ one-plane ∙ ap (λ (k : Memory). changes_of (changed_at m k o)) (sym left))

@@ -1,38 +1,27 @@
 // What the crates above may call, and a host may not: functions that ask something of their caller, who has judged planes and offset.
-ghost use Rattle.std.specs.Prelude.{◌≡◌, ◌<◌, ◌≤◌, eqb, length};
-ghost use Rattle.machine.specs.Memory.{mem, Shaped};
+ghost use Rattle.std.specs.Prelude.{◌≡◌, ◌<◌, ◌≤◌, nat_eq, length, slice_set, get_or};
+ghost use Rattle.machine_types.specs.Slices.{SameSlices};
+ghost use Rattle.machine.specs.Memory.{seen, lent, Shaped};
 ghost use Rattle.machine.specs.Answers.{changes_of, changed_value};
-ghost use Rattle.machine.specs.Deeds.{byte as byte_of_plane, laid, remade, changed_at};
+ghost use Rattle.machine.specs.Deeds.{byte as byte_of_plane, laid, remade, changed_bits, changed_at};
 ghost use Rattle.vram_planes.specs.Stores.{combines};
 
 use crate::kind::PlaneStore;
-use machine_types::Changed;
+use machine_types::{Changed, LentToRead, LentToStore};
 use vram_changes::inner::{changed_bits, in_plane};
 use vram_pixels::inner::remake;
 
 // A plane's byte.
-pub fn byte(
-    p0: &[u8],
-    p1: &[u8],
-    p2: &[u8],
-    p3: &[u8],
-    picture: &[u8],
-    plane: usize,
-    at: usize,
-) -> u8
-    requires { Shaped (mem p0.now p1.now p2.now p3.now picture.now) × ((at < length p0.now) × (plane ≤ 3)) }
-    ensures { result ≡ byte_of_plane (mem p0.now p1.now p2.now p3.now picture.now) plane at }
+pub fn byte(memory: &LentToRead, plane: usize, at: usize) -> u8
+    requires { Shaped (seen memory.now) × ((at < length (seen memory.now).p0) × (plane ≤ 3)) }
+    ensures { result ≡ byte_of_plane (seen memory.now) plane at }
 {
-    if plane == 0 {
-        return p0[at];
+    match plane {
+        0 => memory.p0[at],
+        1 => memory.p1[at],
+        2 => memory.p2[at],
+        _ => memory.p3[at],
     }
-    if plane == 1 {
-        return p1[at];
-    }
-    if plane == 2 {
-        return p2[at];
-    }
-    p3[at]
 }
 
 // The byte that a store puts down, of the one given and the one that stands there.
@@ -46,65 +35,43 @@ fn combined(kind: PlaneStore, x: u8, old: u8) -> u8
     }
 }
 
-// A byte laid into a plane, and how many of its bits that changed; the picture stays as it was, for `remake` to follow once after several planes.
-pub fn lay(
-    p0: &mut [u8],
-    p1: &mut [u8],
-    p2: &mut [u8],
-    p3: &mut [u8],
-    picture: &[u8],
-    plane: usize,
-    at: usize,
-    kind: PlaneStore,
-    x: u8,
-) -> u8
-    requires { Shaped (mem p0.old p1.old p2.old p3.old picture.now) × ((at < length p0.old) × (plane ≤ 3)) }
-    ensures { (mem p0.new p1.new p2.new p3.new picture.now
-        ≡ laid at (λ q. eqb q plane) (λ q. combines kind x (byte_of_plane (mem p0.old p1.old p2.old p3.old picture.now) q at)) (mem p0.old p1.old p2.old p3.old picture.now))
-        × (result ≡ changed_at (mem p0.old p1.old p2.old p3.old picture.now) (mem p0.new p1.new p2.new p3.new picture.now) at plane) }
+// A byte put down in a plane, and how many of its bits that changed.
+fn put(bytes: &mut [u8], at: usize, kind: PlaneStore, x: u8) -> u8
+    requires { at < length bytes.old }
+    ensures down { bytes.new ≡ slice_set bytes.old at (combines kind x (get_or bytes.old at 0)) }
+    ensures counted { result ≡ changed_bits (get_or bytes.old at 0) (combines kind x (get_or bytes.old at 0)) }
 {
-    if plane == 0 {
-        let old = p0[at];
-        let new = combined(kind, x, old);
-        p0[at] = new;
-        return changed_bits(old, new);
-    }
-    if plane == 1 {
-        let old = p1[at];
-        let new = combined(kind, x, old);
-        p1[at] = new;
-        return changed_bits(old, new);
-    }
-    if plane == 2 {
-        let old = p2[at];
-        let new = combined(kind, x, old);
-        p2[at] = new;
-        return changed_bits(old, new);
-    }
-    let old = p3[at];
+    let old = bytes[at];
     let new = combined(kind, x, old);
-    p3[at] = new;
+    bytes[at] = new;
     changed_bits(old, new)
 }
 
-// A store into one plane, already judged: the byte, then its offset's eight pixels, whether the byte changed or not.
-pub fn store(
-    p0: &mut [u8],
-    p1: &mut [u8],
-    p2: &mut [u8],
-    p3: &mut [u8],
-    picture: &mut [u8],
-    plane: usize,
-    at: usize,
-    kind: PlaneStore,
-    x: u8,
-) -> Changed
-    requires { Shaped (mem p0.old p1.old p2.old p3.old picture.old) × ((at < length p0.old) × (plane ≤ 3)) }
-    ensures { (mem p0.new p1.new p2.new p3.new picture.new
-        ≡ remade at (laid at (λ q. eqb q plane) (λ q. combines kind x (byte_of_plane (mem p0.old p1.old p2.old p3.old picture.old) q at)) (mem p0.old p1.old p2.old p3.old picture.old)))
-        × (changed_value result ≡ changes_of (changed_at (mem p0.old p1.old p2.old p3.old picture.old) (mem p0.new p1.new p2.new p3.new picture.new) at)) }
+// A byte laid into a plane, and how many of its bits that changed; the picture stays as it was, for `remake` to follow once after several planes.
+#[tactic(auto, using(crate::proofs::Counts::put_down), unfolding(machine::specs::Deeds::laid, machine::specs::Deeds::changed_at))]
+pub fn lay(memory: &mut LentToStore, plane: usize, at: usize, kind: PlaneStore, x: u8) -> u8
+    requires { Shaped (lent memory.old) × ((at < length (lent memory.old).p0) × (plane ≤ 3)) }
+    ensures same_slices { SameSlices memory.old memory.new }
+    ensures down { lent memory.new ≡ laid at (λ q. nat_eq q plane) (λ q. combines kind x (byte_of_plane (lent memory.old) q at)) (lent memory.old) }
+    ensures counted { result ≡ changed_at (lent memory.old) (lent memory.new) at plane }
 {
-    let number = lay(p0, p1, p2, p3, picture, plane, at, kind, x);
-    remake(p0, p1, p2, p3, picture, at);
+    match plane {
+        0 => put(memory.p0, at, kind, x),
+        1 => put(memory.p1, at, kind, x),
+        2 => put(memory.p2, at, kind, x),
+        _ => put(memory.p3, at, kind, x),
+    }
+}
+
+// A store into one plane, already judged: the byte, then its offset's eight pixels, whether the byte changed or not.
+
+pub fn store(memory: &mut LentToStore, plane: usize, at: usize, kind: PlaneStore, x: u8) -> Changed
+    requires { Shaped (lent memory.old) × ((at < length (lent memory.old).p0) × (plane ≤ 3)) }
+    ensures same_slices { SameSlices memory.old memory.new }
+    ensures stored { lent memory.new ≡ remade at (laid at (λ q. nat_eq q plane) (λ q. combines kind x (byte_of_plane (lent memory.old) q at)) (lent memory.old)) }
+    ensures counted { changed_value result ≡ changes_of (changed_at (lent memory.old) (lent memory.new) at) }
+{
+    let number = lay(memory, plane, at, kind, x);
+    remake(memory, at);
     in_plane(plane, number)
 }

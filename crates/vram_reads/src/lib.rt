@@ -1,114 +1,49 @@
-// The calls of vram.rs that only read, in that file's order: four lent planes and a lent picture, all five handed to each call.
+// The calls of vram.rs that only read, in that file's order. Each is handed the whole of the lent memory.
 #![tactic(auto)]
 
 ghost use Rattle.std.specs.Prelude.{◌≡◌};
-ghost use Rattle.machine.specs.Memory.{mem};
-ghost use Rattle.machine.specs.Answers.{outcome, byte_said, pixel_said, part_said};
+ghost use Rattle.machine.specs.Memory.{seen};
+ghost use Rattle.machine.specs.Answers.{outcome, byte_said, pixel_said, older_said};
 ghost use Rattle.machine.specs.Calls.{read_glyph, peek_u8, read_u8, read_linear, serialize_linear};
 ghost use Rattle.machine.specs.Step.{vram_step};
 
-use machine_types::{ByteAnswer, DoneAnswer, PixelPlace, PlaneOffset, Shape};
+use machine_types::{LentToRead, Part, PixelPlace, PlaneOffset, Refusal};
 
 // Plane 2's byte.
-pub fn read_glyph(
-    p0: &[u8],
-    p1: &[u8],
-    p2: &[u8],
-    p3: &[u8],
-    picture: &[u8],
-    offset: PlaneOffset,
-) -> ByteAnswer
-    ensures { outcome (byte_said result) (mem p0.now p1.now p2.now p3.now picture.now) ≡ vram_step (mem p0.now p1.now p2.now p3.now picture.now) (read_glyph offset.0) }
+pub fn read_glyph(memory: &LentToRead, offset: PlaneOffset) -> Result<u8, Refusal>
+    ensures { outcome (byte_said result) (seen memory.now) ≡ vram_step (seen memory.now) (read_glyph offset.0) }
 {
-    let shape = Shape::of(p0.len(), p1.len(), p2.len(), p3.len(), picture.len());
-    match refusals_memory::judge_offset(shape, offset) {
-        DoneAnswer::Refused(x) => ByteAnswer::Refused(x),
-        DoneAnswer::Done => {
-            let at = offset.0;
-            ByteAnswer::Done(p2[at])
-        }
-    }
+    refusals_memory::judge_offset(memory.shape(), offset)?;
+    Ok(memory.p2[offset.0])
 }
 
 // A plane's byte.
-pub fn peek_u8(
-    p0: &[u8],
-    p1: &[u8],
-    p2: &[u8],
-    p3: &[u8],
-    picture: &[u8],
-    plane: usize,
-    offset: PlaneOffset,
-) -> ByteAnswer
-    ensures { outcome (byte_said result) (mem p0.now p1.now p2.now p3.now picture.now) ≡ vram_step (mem p0.now p1.now p2.now p3.now picture.now) (peek_u8 plane offset.0) }
+pub fn peek_u8(memory: &LentToRead, plane: usize, offset: PlaneOffset) -> Result<u8, Refusal>
+    ensures { outcome (byte_said result) (seen memory.now) ≡ vram_step (seen memory.now) (peek_u8 plane offset.0) }
 {
-    read_u8(p0, p1, p2, p3, picture, plane, offset)
+    read_u8(memory, plane, offset)
 }
 
 // A plane's byte.
-pub fn read_u8(
-    p0: &[u8],
-    p1: &[u8],
-    p2: &[u8],
-    p3: &[u8],
-    picture: &[u8],
-    plane: usize,
-    offset: PlaneOffset,
-) -> ByteAnswer
-    ensures { outcome (byte_said result) (mem p0.now p1.now p2.now p3.now picture.now) ≡ vram_step (mem p0.now p1.now p2.now p3.now picture.now) (read_u8 plane offset.0) }
+pub fn read_u8(memory: &LentToRead, plane: usize, offset: PlaneOffset) -> Result<u8, Refusal>
+    ensures { outcome (byte_said result) (seen memory.now) ≡ vram_step (seen memory.now) (read_u8 plane offset.0) }
 {
-    let shape = Shape::of(p0.len(), p1.len(), p2.len(), p3.len(), picture.len());
-    match refusals_memory::judge_plane(shape, plane, offset) {
-        DoneAnswer::Refused(x) => ByteAnswer::Refused(x),
-        DoneAnswer::Done => {
-            let at = offset.0;
-            ByteAnswer::Done(vram_planes::inner::byte(p0, p1, p2, p3, picture, plane, at))
-        }
-    }
+    refusals_memory::judge_plane(memory.shape(), plane, offset)?;
+    Ok(vram_planes::inner::byte(memory, plane, offset.0))
 }
 
 // The pixel at a place.
-pub fn read_linear(
-    p0: &[u8],
-    p1: &[u8],
-    p2: &[u8],
-    p3: &[u8],
-    picture: &[u8],
-    place: PixelPlace,
-) -> ByteAnswer
-    ensures { outcome (pixel_said result) (mem p0.now p1.now p2.now p3.now picture.now) ≡ vram_step (mem p0.now p1.now p2.now p3.now picture.now) (read_linear place.0) }
+pub fn read_linear(memory: &LentToRead, place: PixelPlace) -> Result<u8, Refusal>
+    ensures { outcome (pixel_said result) (seen memory.now) ≡ vram_step (seen memory.now) (read_linear place.0) }
 {
-    let shape = Shape::of(p0.len(), p1.len(), p2.len(), p3.len(), picture.len());
-    match refusals_memory::judge_place(shape, place) {
-        DoneAnswer::Refused(x) => ByteAnswer::Refused(x),
-        DoneAnswer::Done => {
-            let at = place.0;
-            ByteAnswer::Done(picture[at])
-        }
-    }
+    refusals_memory::judge_place(memory.shape(), place)?;
+    Ok(memory.picture[place.0])
 }
 
-// The caller's own eight pixels of an offset, or an empty part where refused; the number beside it.
-pub fn serialize_linear<'a, 'b, 'c, 'd, 'p, 'n>(
-    p0: &'a [u8],
-    p1: &'b [u8],
-    p2: &'c [u8],
-    p3: &'d [u8],
-    picture: &'p [u8],
-    offset: PlaneOffset,
-    number: &'n mut u8,
-) -> &'p [u8]
-    ensures { outcome (part_said number.new result.now) (mem p0.now p1.now p2.now p3.now picture.now) ≡ vram_step (mem p0.now p1.now p2.now p3.now picture.now) (serialize_linear offset.0) }
+// The caller's own eight pixels of an offset, or an empty part where refused.
+pub fn serialize_linear<'p>(memory: &LentToRead<'_, 'p>, offset: PlaneOffset) -> Part<'p>
+    ensures { outcome (older_said result) (seen memory.now) ≡ vram_step (seen memory.now) (serialize_linear offset.0) }
 {
-    let shape = Shape::of(p0.len(), p1.len(), p2.len(), p3.len(), picture.len());
-    match refusals_memory::judge_shown(shape, offset) {
-        DoneAnswer::Refused(x) => {
-            *number = fields::refusal_number(x);
-            &picture[0..0]
-        }
-        DoneAnswer::Done => {
-            *number = 0;
-            vram_pixels::inner::eight(picture, offset)
-        }
-    }
+    let answer = refusals_memory::judge_shown(memory.shape(), offset);
+    vram_pixels::inner::part(memory.picture, offset, answer)
 }

@@ -1,31 +1,29 @@
--- `read_of` answers 6 where a number selects no register, else as `cpu_read_u8` of the records that are meant; the latches and one counter move.
-use Prim.Native.Nat.{◌/◌, ◌^◌}
-use mathlib.Core.Path.{refl, ap, ◌∙◌}
-use Rattle.machine.specs.Memory.{mem}
-use Rattle.machine.specs.Answers.{one}
+-- An accepted read: the latches and one counter move.
+use mathlib.Core.Path.{◌≡◌, ap, ap₂, sym, ◌∙◌}
+use Rattle.machine_types.specs.declared.gc.GraphicsController.{GraphicsController}
+use Rattle.machine_types.specs.declared.seq.Sequencer.{Sequencer}
+use Rattle.machine.specs.Memory.{seen}
+use Rattle.machine.specs.Answers.{Said, one, outcome}
+use Rattle.machine.specs.Calls.{cpu_read, read_counter}
+use Rattle.machine.specs.Graphics.{read_mode}
+use Rattle.machine.specs.Step.{device, cpu_step}
 use Rattle.answers.specs.Answers.{answer_said}
-use Rattle.host_records.specs.Records.{controller_of, counter_of}
-use Rattle.host_calls.proofs.Laws.{unknown-of, known_of, cpu-unknown, cpu-read, read_fits, read-own}
+use Rattle.host_records.specs.Records.{known_both, controller_of, sequencer_of, is_set, counter_of, counter_told}
+use Rattle.host_records.proofs.Told.{number-said}
+use Rattle.host_calls.proofs.Laws.{meant_of, cpu-read}
 use Rattle.host_calls.proofs.read_of.Goals as goal
-
-pub returns-then-not-known : goal.returns-then-not-known
-returns-then-not-known c =
-    let a = c.args in
-    let m = mem a.p0.now a.p1.now a.p2.now a.p3.now a.picture.now in
-    let e = c.unknown.ensures in
-    (cpu-unknown a.gc a.seq m (one 0) _ (unknown-of c.if-not-known.true c.known.ensures) _ _ (ap answer_said e) refl, rw e)
-
-pub overflow_add-gc : goal.overflow_add-gc
-overflow_add-gc c =
-    record { fits = read_fits (c.args.gc.mode / 2 ^ 3) }
 
 pub returns : goal.returns
 returns c =
     let a = c.args in
-    let m = mem a.p0.now a.p1.now a.p2.now a.p3.now a.picture.now in
-    let counts = c.counter_of.ensures ∙ ap (counter_of c.of_byte-answer.result.number) (read-own (controller_of a.gc).registers) in
-    rw (← c.is_set-high.ensures) (
-      cpu-read a.gc a.seq m (one 0) a.address _ (known_of c.if-not-known.false c.known.ensures) _ _
-          c.to_controller-controller.ensures c.to_sequencer-seq.ensures _ m _ _ _ c.of_byte-answer.ensures counts c.cpu_read_u8-r.ensures,
-      counts,
-    )
+    let m = seen a.memory.now in
+    let both = meant_of (known_both a.gc a.seq) _ _ _ c.meant.ensures c.in-Ok.is in
+    let i = ap (λ (q : GraphicsController × Sequencer). q.0) both.1 in
+    let j = ap (λ (q : GraphicsController × Sequencer). q.1) both.1 in
+    let read = c.cpu_read_u8-read.result in
+    let step : outcome (answer_said c.into.result) (device read.next m) ≡ cpu_step (controller_of a.gc) (sequencer_of a.seq) m (cpu_read a.address (is_set a.page)) =
+    rw (c.into.ensures, ← i, ← j, ← c.is_set.ensures) c.cpu_read_u8-read.ensures in
+    let number = sym (ap (λ (s : Said). s.number) c.into.ensures ∙ number-said one (one 0) read.answer) in
+    let own = c.into-own.ensures ∙ ap read_counter (c.read_mode.ensures ∙ ap (λ (q : GraphicsController). read_mode q.registers) i) in
+    let counts : counter_told c.of.result ≡ counter_of c.into.result.number (read_counter (read_mode (controller_of a.gc).registers)) = c.of.ensures ∙ ap₂ counter_of number own in
+    (cpu-read a.gc a.seq m (one 0) a.address _ both.0 _ m _ _ counts step, counts)

@@ -1,25 +1,23 @@
 -- `plane_store` judges and then stores: the machine's store of each kind, by `store-refused` and `store-done`.
-use borrow.Author.Rules.{rules}
-use Rattle.machine.specs.Memory.{mem}
-use Rattle.refusals_memory.proofs.Told.{as-told}
+use Rattle.std.proofs.Common.{◌≡◌, rules}
+use Rattle.machine.specs.Memory.{lent, shape}
+use Rattle.machine.specs.Calls.{plane_number}
 use Rattle.vram_reads.proofs.Laws.{plane-asked}
 use Rattle.vram.proofs.Laws.{store-refused, store-done}
 use Rattle.vram.proofs.plane_store.Goals as goal
 
-pub store-changed-requires : goal.store-changed-requires
-store-changed-requires c =
-    let judged = rw c.of-shape.ensures at c.judge_plane.ensures in
-    plane-asked _ _ _ (as-told c.in-Done.is judged)
+pub returns-in_err-judge_plane-clause-does : goal.returns-in_err-judge_plane-clause-does
+returns-in_err-judge_plane-clause-does c =
+    let a = c.args in
+    store-refused (lent a.memory.now) a.plane a.offset.0 a.byte a.kind _ c.in_err-judge_plane.field-0.0 (search rules) (search rules)
 
-pub returns-in-Refused : goal.returns-in-Refused
-returns-in-Refused c =
-    let judged = rw c.of-shape.ensures at c.judge_plane.ensures in
-    let m = mem c.args.p0.now c.args.p1.now c.args.p2.now c.args.p3.now c.args.picture.now in
-    store-refused m c.args.plane c.args.offset.0 c.args.byte judged c.args.kind _ c.in-Refused.is
+pub store-requires : goal.store-requires
+store-requires c =
+    let judged : 0 ≡ plane_number (shape (lent c.args.memory.now)) c.args.plane c.args.offset.0 = search rules in
+    plane-asked _ _ _ judged
 
-pub returns-in-Done : goal.returns-in-Done
-returns-in-Done c =
-    let judged = rw c.of-shape.ensures at c.judge_plane.ensures in
-    let m = mem c.args.p0.now c.args.p1.now c.args.p2.now c.args.p3.now c.args.picture.now in
-    store-done m c.args.plane c.args.offset.0 c.args.byte judged c.args.kind _ _ c.in-Done.is (search rules)
-    c.store-changed.ensures.0 c.store-changed.ensures.1
+pub returns-clause-does : goal.returns-clause-does
+returns-clause-does c =
+    let a = c.args in
+    let judged : 0 ≡ plane_number (shape (lent a.memory.now)) a.plane a.offset.0 = search rules in
+    store-done (lent a.memory.now) a.plane a.offset.0 a.byte a.kind _ _ judged (search rules) c.store.ensures.stored c.store.ensures.counted

@@ -3,7 +3,7 @@ use Rattle.machine.specs.Step.{vram_step}
 use Rattle.machine.specs.Calls.{vram_plan}
 use Rattle.vram.proofs.write_u8.Goals as goal
 
-pub returns : goal.returns
+pub returns-clause-does : goal.returns-clause-does
 unfolding vram_step vram_plan
-returns c =
-    c.plane_set.ensures
+returns-clause-does c =
+    c.plane_set.ensures.does

@@ -5,5 +5,4 @@ use Rattle.vram_reads.proofs.peek_u8.Goals as goal
 
 pub returns : goal.returns
 unfolding vram_step vram_plan
-returns c =
-    c.read_u8.ensures
+returns c = c.read_u8.ensures

@@ -1,27 +1,25 @@
 -- `read_glyph` answers as the machine: refused by `judge_offset`'s number, else plane 2's byte.
-use native.Mathlib.Omega.{arith}
-use mathlib.Core.Path.{refl, sym}
-use Rattle.machine.proofs.Laws.{perform-done, perform-refused, refusal-some, offset-accepted}
+use Rattle.std.proofs.Common.{◌≡◌, refl, sym, arith, rules}
+use Rattle.machine.proofs.Laws.{perform-done, offset-accepted}
+use Rattle.machine.specs.Memory.{seen, shape}
 use Rattle.machine.specs.Step.{vram_step}
-use Rattle.machine.specs.Calls.{vram_plan}
+use Rattle.machine.specs.Calls.{vram_plan, offset_number}
 use Rattle.machine.specs.Deeds.{memory_after, value_of}
-use Rattle.refusals_memory.proofs.Told.{as-told}
+use Rattle.vram_reads.proofs.Laws.{refused}
 use Rattle.vram_reads.proofs.read_glyph.Goals as goal
 
-pub bounds-p2-at : goal.bounds-p2-at
-bounds-p2-at c =
-    let judged = rw c.of-shape.ensures at c.judge_offset.ensures in
-    let h = offset-accepted _ _ (sym (as-told c.in-Done.is judged)) in
+pub returns-in_err-judge_offset : goal.returns-in_err-judge_offset
+unfolding vram_plan value_of
+returns-in_err-judge_offset c = refused _ _ _ _ c.in_err-judge_offset.field-0.0 (search rules) refl _ (search rules)
+
+pub bounds-memory-offset : goal.bounds-memory-offset
+bounds-memory-offset c =
+    let judged : 0 ≡ offset_number (shape (seen c.args.memory.now)) c.args.offset.0 = search rules in
+    let h = offset-accepted _ _ (sym judged) in
     omega arith
 
-pub returns-in-Refused : goal.returns-in-Refused
-unfolding vram_step vram_plan value_of
-returns-in-Refused c =
-    let judged = rw c.of-shape.ensures at c.judge_offset.ensures in
-    perform-refused _ _ _ _ (refusal-some c.in-Refused.x) (as-told c.in-Refused.is judged) refl
-
-pub returns-in-Done : goal.returns-in-Done
+pub returns : goal.returns
 unfolding vram_step vram_plan memory_after value_of
-returns-in-Done c =
-    let judged = rw c.of-shape.ensures at c.judge_offset.ensures in
-    perform-done _ _ _ _ (as-told c.in-Done.is judged) refl refl
+returns c =
+    let judged : 0 ≡ offset_number (shape (seen c.args.memory.now)) c.args.offset.0 = search rules in
+    perform-done _ _ _ _ judged refl refl

@@ -1,48 +1,26 @@
 -- `cpu_read_u8` answers as the machine: refused by the judge's number, else from the latches that it loads, with one counter raised.
-use Rattle.graphics_controller.proofs.Accesses.{judged, located, unlocated, access-fits, read-refused, read_done}
-use Rattle.refusals_records.proofs.Held.{map-select-fits}
-use Rattle.machine.proofs.Laws.{stored-at-le}
-use Rattle.machine.specs.Memory.{mem, shape}
-use Rattle.machine.proofs.Laws.{refusal-some, access-accepted}
-use Rattle.machine.specs.Address.{a0}
-use mathlib.Core.Path.{sym}
-use native.Mathlib.Omega.{arith}
+use Rattle.std.proofs.Common.{arith}
+use Rattle.machine.proofs.Laws.{refusal-some, stored-at-le}
+use Rattle.machine.specs.Memory.{seen}
+use Rattle.graphics_controller.proofs.Accesses.{located, unlocated, read-refused, read_done}
 use Rattle.graphics_controller.proofs.access.cpu_read_u8.Goals as goal
 
 pub load-latches-requires : goal.load-latches-requires
 load-latches-requires c =
-    let a = c.args in
-    let m = mem a.p0.now a.p1.now a.p2.now a.p3.now a.picture.now in
-    -- what the judge answered is what the machine says of the address
-    let j = judged a.gc.registers a.seq m a.address a.page c.judge_address.result _ _ _ c.of-shape.ensures c.fits_both-fits.ensures c.shaped-good.ensures c.judge_address.ensures in
-    let l = located _ _ _ _ (a0 a.address) j _ _ c.in-Done.is in
-    let h = access-accepted (shape m) a.gc.registers a.seq a.address a.page (sym l.accepted) in
-    (h.shaped, omega (arith, c.stored_at-at.ensures, stored-at-le a.seq c.in-Done.found.0, l.offset, h.offset))
+    let l = located _ _ (seen c.args.memory.now) _ _ c.shape.ensures c.judge_access.ensures _ _ c.in-Ok.is in
+    (l.shaped, omega (arith, c.stored_at-at.ensures, stored-at-le c.args.seq c.in-Ok.found.0, l.within))
 
 pub read_done-requires : goal.read_done-requires
 read_done-requires c =
-    let a = c.args in
-    let m = mem a.p0.now a.p1.now a.p2.now a.p3.now a.picture.now in
-    -- what the judge answered is what the machine says of the address
-    let j = judged a.gc.registers a.seq m a.address a.page c.judge_address.result _ _ _ c.of-shape.ensures c.fits_both-fits.ensures c.shaped-good.ensures c.judge_address.ensures in
-    let l = located _ _ _ _ (a0 a.address) j _ _ c.in-Done.is in
-    let fit = access-fits a.gc.registers a.seq (shape m) a.address a.page l.accepted in
-    map-select-fits a.gc.registers fit.0
+    (located _ _ (seen c.args.memory.now) _ _ c.shape.ensures c.judge_access.ensures _ _ c.in-Ok.is).map-select
 
-pub returns-in-Refused : goal.returns-in-Refused
-returns-in-Refused c =
+pub returns-in-Err : goal.returns-in-Err
+returns-in-Err c =
     let a = c.args in
-    let m = mem a.p0.now a.p1.now a.p2.now a.p3.now a.picture.now in
-    -- what the judge answered is what the machine says of the address
-    let j = judged a.gc.registers a.seq m a.address a.page c.judge_address.result _ _ _ c.of-shape.ensures c.fits_both-fits.ensures c.shaped-good.ensures c.judge_address.ensures in
-    let n = unlocated _ _ _ _ (a0 a.address) j _ c.in-Refused.is in
-    read-refused a.gc a.seq m a.address a.page _ _ (refusal-some c.in-Refused.x) n c.turned_away.ensures
+    read-refused a.gc a.seq (seen a.memory.now) a.address a.page _ _ (refusal-some c.in-Err.refusal) (unlocated _ _ _ _ _ c.shape.ensures c.judge_access.ensures _ c.in-Err.is) c.turned_away.ensures
 
-pub returns-in-Done : goal.returns-in-Done
-returns-in-Done c =
+pub returns-in-Ok : goal.returns-in-Ok
+returns-in-Ok c =
     let a = c.args in
-    let m = mem a.p0.now a.p1.now a.p2.now a.p3.now a.picture.now in
-    -- what the judge answered is what the machine says of the address
-    let j = judged a.gc.registers a.seq m a.address a.page c.judge_address.result _ _ _ c.of-shape.ensures c.fits_both-fits.ensures c.shaped-good.ensures c.judge_address.ensures in
-    let l = located _ _ _ _ (a0 a.address) j _ _ c.in-Done.is in
-    read_done a.gc a.seq m a.address a.page _ _ _ _ _ l.accepted l.offset c.stored_at-at.ensures c.load-latches.ensures c.read_done.ensures
+    let l = located _ _ (seen a.memory.now) _ _ c.shape.ensures c.judge_access.ensures _ _ c.in-Ok.is in
+    read_done a.gc a.seq (seen a.memory.now) a.address a.page _ _ _ _ _ l.accepted l.offset c.stored_at-at.ensures c.load-latches.ensures c.read_done.ensures

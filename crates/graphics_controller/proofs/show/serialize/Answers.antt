@@ -1,28 +1,19 @@
 -- `serialize` answers as the machine: an empty part by the judge's number, else eight pixels from 8 times the offset on.
-use native.Mathlib.Omega.{arith}
-use mathlib.Core.Path.{◌∙◌}
-use Rattle.machine.proofs.Laws.{refusal-some}
-use Rattle.machine.specs.Memory.{mem}
-use Rattle.refusals_memory.proofs.Told.{as-told}
-use Rattle.graphics_controller.proofs.Accesses.{show-accepted, show-refused, show-done}
+use Rattle.std.proofs.Common.{◌≡◌, sym, ◌∙◌, arith, rules}
+use Rattle.machine.specs.Memory.{seen, shape}
+use Rattle.machine.specs.Answers.{done_said}
+use Rattle.machine.specs.Calls.{show_number}
+use Rattle.graphics_controller.proofs.Accesses.{show-accepted, older-shown}
 use Rattle.graphics_controller.proofs.show.serialize.Goals as goal
 
-pub eight-requires : goal.eight-requires
-eight-requires c =
-    let m = mem c.args.p0.now c.args.p1.now c.args.p2.now c.args.p3.now c.args.picture.now in
-    let judged = rw c.of-shape.ensures at c.judge_show.ensures in
-    let h = show-accepted c.args.gc.registers c.args.seq m _ (as-told c.in-Done.is judged) in
-    (omega arith, omega arith)
+pub part-requires : goal.part-requires
+part-requires c =
+    let a = c.args in
+    let j : (done_said c.judge_show-answer.result).number ≡ show_number a.gc.registers a.seq (shape (seen a.memory.now)) a.offset.0 = search rules in
+    λ e. let h = show-accepted a.gc.registers a.seq (seen a.memory.now) _ (sym (sym j ∙ e)) in (omega arith, omega arith)
 
-pub returns-in-Refused : goal.returns-in-Refused
-returns-in-Refused c =
-    let m = mem c.args.p0.now c.args.p1.now c.args.p2.now c.args.p3.now c.args.picture.now in
-    let judged = rw c.of-shape.ensures at c.judge_show.ensures in
-    show-refused c.args.gc c.args.seq m _ _ (rw c.refusal_number.ensures (refusal-some c.in-Refused.x))
-    (c.refusal_number.ensures ∙ as-told c.in-Refused.is judged)
-
-pub returns-in-Done : goal.returns-in-Done
-returns-in-Done c =
-    let m = mem c.args.p0.now c.args.p1.now c.args.p2.now c.args.p3.now c.args.picture.now in
-    let judged = rw c.of-shape.ensures at c.judge_show.ensures in
-    show-done c.args.gc c.args.seq m _ _ (as-told c.in-Done.is judged) c.eight.ensures
+pub returns : goal.returns
+returns c =
+    let a = c.args in
+    let j : (done_said c.judge_show-answer.result).number ≡ show_number a.gc.registers a.seq (shape (seen a.memory.now)) a.offset.0 = search rules in
+    rw c.part.ensures (older-shown a.gc a.seq (seen a.memory.now) a.offset.0 c.judge_show-answer.result j)

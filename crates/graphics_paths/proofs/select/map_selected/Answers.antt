@@ -4,10 +4,6 @@ use lib.Bits.{and_le_r}
 use Rattle.fields.proofs.Bit0.{bit0-replaced, bit0-of}
 use Rattle.graphics_paths.proofs.select.map_selected.Goals as goal
 
-pub returns-in-Sequential : goal.returns-in-Sequential
-returns-in-Sequential c =
-    simp (sym c.odd_even-mode.ensures ∙ c.in-Sequential.is)
-
 pub returns-in-OddEven : goal.returns-in-OddEven
 returns-in-OddEven c =
     let a = c.args in

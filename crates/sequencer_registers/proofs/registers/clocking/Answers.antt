@@ -1,20 +1,16 @@
 -- `clocking` has the four pairs of Clocking Mode's bits 0 and 3.
-use Rattle.std.proofs.Common.{true, false, eq-eqb, ne_eqb}
-use Rattle.sequencer_registers.proofs.Laws.{clocks-of}
+use Rattle.std.proofs.Common.{true, false}
+use Rattle.sequencer_registers.proofs.Laws.{clocks_of}
 use Rattle.sequencer_registers.proofs.registers.clocking.Goals as goal
 
-pub returns-then-eight_dots : goal.returns-then-eight_dots
-returns-then-eight_dots c =
-    clocks-of c.args.mode true true (eq-eqb _ 1 c.if-eight_dots.true) (eq-eqb _ 1 c.if-half_clock.true)
+pub returns-in-true-true : goal.returns-in-true-true
+returns-in-true-true c = clocks_of c.args.mode true true c.in-true-true.is-1 c.in-true-true.is-0
 
-pub returns-then-half_clock : goal.returns-then-half_clock
-returns-then-half_clock c =
-    clocks-of c.args.mode false true (ne_eqb _ 1 c.if-eight_dots.false) (eq-eqb _ 1 c.if-half_clock.true)
+pub returns-in-true-false : goal.returns-in-true-false
+returns-in-true-false c = clocks_of c.args.mode false true c.in-true-false.is-1 c.in-true-false.is-0
 
-pub returns-then-eight_dots-2 : goal.returns-then-eight_dots-2
-returns-then-eight_dots-2 c =
-    clocks-of c.args.mode true false (eq-eqb _ 1 c.if-eight_dots-2.true) (ne_eqb _ 1 c.if-half_clock.false)
+pub returns-in-false-true : goal.returns-in-false-true
+returns-in-false-true c = clocks_of c.args.mode true false c.in-false-true.is-1 c.in-false-true.is-0
 
-pub returns : goal.returns
-returns c =
-    clocks-of c.args.mode false false (ne_eqb _ 1 c.if-eight_dots-2.false) (ne_eqb _ 1 c.if-half_clock.false)
+pub returns-in-false-false : goal.returns-in-false-false
+returns-in-false-false c = clocks_of c.args.mode false false c.in-false-false.is-1 c.in-false-false.is-0

@@ -1,12 +1,11 @@
--- `show` is the machine's step: from `show_pixels`, its number and pixels as a record's.
-use Rattle.machine.specs.Memory.{mem}
+-- `show` is the machine's step: from what `show_pixels` ensures.
+use mathlib.Core.Path.{refl, ap}
+use Rattle.machine_types.specs.declared.gc.ShiftMode.{ShiftMode}
+use Rattle.machine.specs.Answers.{shown_said}
 use Rattle.machine.specs.Calls.{show_pixels}
-use Rattle.tape_calls.proofs.Performing.{cpu-so, shown-so}
+use Rattle.tape_calls.proofs.Performing.{cpu-so}
 use Rattle.tape_calls.proofs.calls.show.Goals as goal
 
 pub returns : goal.returns
 returns c =
-    let a = c.args in
-    let m = mem a.p0.now a.p1.now a.p2.now a.p3.now a.picture.now in
-    cpu-so a.gc a.seq m (show_pixels a.offset.0) c.show_pixels-shown.ensures
-    (shown-so c.show_pixels-shown.result c.of_pixels.ensures c.of_shown-told.ensures c.shift_mode-mode.ensures)
+    cpu-so _ _ _ (show_pixels c.args.offset.0) c.show_pixels-pixels.ensures (ap (λ (d : ShiftMode). shown_said d c.show_pixels-pixels.result) c.shift_mode-mode.ensures) refl refl

@@ -1,8 +1,7 @@
 -- `run_from_start` lends `run` the start's memory and records: what `run` ensures there, less the memory, which ends with the call.
 use Prim.Native.Nat.{ℕ}
-use mathlib.Core.Path.{◌≡◌, refl, ap, sym}
+use mathlib.Core.Path.{◌≡◌, refl, ap}
 use mathlib.Core.List.{List}
-use lib.ListN.{length-replicate}
 use Rattle.machine_types.specs.Start.{fresh_gc, fresh_seq}
 use Rattle.machine_types.specs.declared.gc.GraphicsController.{GraphicsController}
 use Rattle.machine_types.specs.declared.seq.Sequencer.{Sequencer}
@@ -18,22 +17,7 @@ from_start : (tape out : List ℕ) {out' : List ℕ} {r : Ran} {g : GraphicsCont
 unfolding tape_start printed_of
 from_start tape out m e f p q = ap (λ (o : TapeRun). printed o.ran o.out) (rw (e, f, q) at p)
 
-pub slice_bounds-run-end : goal.slice_bounds-run-end
-slice_bounds-run-end c = sym (length-replicate {0} {A = ℕ} _ 0)
-
-pub slice_bounds-run-end-2 : goal.slice_bounds-run-end-2
-slice_bounds-run-end-2 c = sym (length-replicate {0} {A = ℕ} _ 0)
-
-pub slice_bounds-run-end-3 : goal.slice_bounds-run-end-3
-slice_bounds-run-end-3 c = sym (length-replicate {0} {A = ℕ} _ 0)
-
-pub slice_bounds-run-end-4 : goal.slice_bounds-run-end-4
-slice_bounds-run-end-4 c = sym (length-replicate {0} {A = ℕ} _ 0)
-
-pub slice_bounds-run-end-5 : goal.slice_bounds-run-end-5
-slice_bounds-run-end-5 c = sym (length-replicate {0} {A = ℕ} _ 0)
-
 pub returns : goal.returns
 unfolding tape_start
 returns c =
-    from_start c.args.tape.now c.args.out.now _ c.new.ensures c.new-2.ensures c.run.ensures refl
+    from_start c.args.tape.now c.args.out.now _ c.new.ensures c.new-2.ensures c.run.ensures.does refl

@@ -1,108 +1,47 @@
--- `play` writes the lines of the definition and leaves its state: the loop's invariant is `Loop`, over any list of records.
-use borrow.Author.Rules.{rules}
-use mathlib.Core.Path.{◌∙◌}
-use native.Mathlib.Omega.{arith}
-use Rattle.tape_reader.proofs.Runs.{loop-first, loop-end, broken-fits, broken-end, taken-fits, whole-fits, whole_again}
+-- `play` writes the lines of the definition and leaves its state: the loop keeps `Loop`.
+use Rattle.std.proofs.Common.{refl, ◌<◌, ◌^◌, length, inl, rules, arith}
+use Rattle.tape_machine.proofs.Room.{few_records}
+use Rattle.tape_reader.proofs.Runs.{loop_first, loop_end, whole_room, whole_loop, broken_room, broken_loop}
 use Rattle.tape_reader.proofs.whole.play.Goals as goal
 
-pub loop-at-init : goal.loop-at-init
-loop-at-init c =
-    loop-first _ _ _ (search rules) c.requires
+pub loop-earlier-init-derived : goal.loop-earlier-init-derived
+loop-earlier-init-derived c =
+    let few = few_records c.args.tape.now in
+    let long : length c.args.tape.now < 2 ^ 64 = search rules in
+    ((tt, tt, inl (rw (c.into_iter-earlier-iterator.ensures.into_iter_gives, c.enumerate-earlier-items.ensures.source, c.enumerate-earlier-items.ensures.count) (omega arith))), tt)
 
-pub line-end-requires : goal.line-end-requires
-line-end-requires c =
-    broken-fits _ _ _ _ _ _ _ _ c.loop-at.invariant c.loop-at-test.true c.decode.ensures _ _ c.in-Broken.is
-    c.of_fault.ensures
+pub line-requires : goal.line-requires
+line-requires c = record {
+  room = whole_room _ _ _ c.loop-earlier.earlier-iterator c.next.new.self c.loop-earlier.invariant.2 _ _ c.in-Some.ensures.steps c.in-Ok.is c.perform-done.ensures.does c.command_number.ensures;
+}
 
-pub shape_of-p0-in-Broken : goal.shape_of-p0-in-Broken
-shape_of-p0-in-Broken c =
-    c.loop-at.invariant.kept.k0
+pub loop-earlier-preserved-in-Ok : goal.loop-earlier-preserved-in-Ok
+loop-earlier-preserved-in-Ok c = (
+  search rules,
+  search rules,
+  whole_loop _ _ _ _ _ c.loop-earlier.invariant.2 _ _ c.in-Some.ensures.steps c.in-Ok.is c.perform-done.ensures.does c.command_number.ensures c.line.ensures.put,
+)
 
-pub shape_of-p1-in-Broken : goal.shape_of-p1-in-Broken
-shape_of-p1-in-Broken c =
-    c.loop-at.invariant.kept.k1
+pub line-requires-in-Err : goal.line-requires-in-Err
+line-requires-in-Err c = record { room = broken_room _ _ _ c.loop-earlier.earlier-iterator c.next.new.self c.loop-earlier.invariant.2 _ _ c.in-Some.ensures.steps c.in-Err.is c.from.ensures }
 
-pub shape_of-p2-in-Broken : goal.shape_of-p2-in-Broken
-shape_of-p2-in-Broken c =
-    c.loop-at.invariant.kept.k2
+pub loop-earlier-preserved : goal.loop-earlier-preserved
+loop-earlier-preserved c = (
+  c.loop-earlier.invariant.0,
+  search rules,
+  broken_loop _ _ _ _ _ c.loop-earlier.invariant.2 _ _ c.in-Some.ensures.steps c.in-Err.is c.from.ensures c.line-in-Err.ensures.put,
+)
 
-pub shape_of-p3-in-Broken : goal.shape_of-p3-in-Broken
-shape_of-p3-in-Broken c =
-    c.loop-at.invariant.kept.k3
-
-pub shape_of-picture-in-Broken : goal.shape_of-picture-in-Broken
-shape_of-picture-in-Broken c =
-    c.loop-at.invariant.kept.k4
-
-pub shape_of-out-in-Broken : goal.shape_of-out-in-Broken
-shape_of-out-in-Broken c =
-    (search rules) ∙ c.loop-at.invariant.room
-
-pub returns-in-Broken : goal.returns-in-Broken
-returns-in-Broken c =
-    rw c.ended.ensures (broken-end _ _ _ _ _ _ _ _ c.loop-at.invariant c.loop-at-test.true c.decode.ensures _ _ c.in-Broken.is
-    c.of_fault.ensures c.line-end.ensures)
-
-pub line-place-requires : goal.line-place-requires
-line-place-requires c =
-    whole-fits _ _ _ _ _ _ _ _ c.loop-at.invariant c.loop-at-test.true c.decode.ensures _ _ c.in-Whole.is
-    c.perform-done.ensures c.command_number.ensures
-
-pub overflow_add-at : goal.overflow_add-at
-overflow_add-at c =
-    omega (
-      arith,
-      (taken-fits _ _ _ _ _ _ _ _ c.loop-at.invariant c.loop-at-test.true c.decode.ensures _ _ c.in-Whole.is).1,
-      c.loop-at.invariant.short,
+pub loop-earlier-init : goal.loop-earlier-init
+loop-earlier-init c =
+    let all = c.enumerate-earlier-items.ensures in
+    let it = c.into_iter-earlier-iterator.ensures.into_iter_gives in (
+      record { p0 = refl; p1 = refl; p2 = refl; p3 = refl; picture = refl },
+      refl,
+      loop_first c.args.tape.now _ _ c.into_iter-earlier-iterator.result (rw (it, all.count)) (rw (it, all.source)) (search rules) c.requires,
     )
 
-pub overflow_add-number : goal.overflow_add-number
-overflow_add-number c =
-    omega (arith, c.loop-at.invariant.count, c.loop-at.invariant.short, c.loop-at-test.true)
-
-pub loop-at-smaller : goal.loop-at-smaller
-loop-at-smaller c =
-    omega (
-      arith,
-      (taken-fits _ _ _ _ _ _ _ _ c.loop-at.invariant c.loop-at-test.true c.decode.ensures _ _ c.in-Whole.is).0,
-      c.loop-at-test.true,
-    )
-
-pub loop-at-preserved : goal.loop-at-preserved
-loop-at-preserved c =
-    whole_again _ _ _ _ _ _ _ _ c.loop-at.invariant c.loop-at-test.true c.decode.ensures _ _ c.in-Whole.is
-    c.perform-done.ensures c.command_number.ensures (record {
-      k0 = search rules;
-      k1 = search rules;
-      k2 = search rules;
-      k3 = search rules;
-      k4 = search rules;
-    }) c.line-place.ensures
-
-pub shape_of-p0 : goal.shape_of-p0
-shape_of-p0 c =
-    c.loop-at.invariant.kept.k0
-
-pub shape_of-p1 : goal.shape_of-p1
-shape_of-p1 c =
-    c.loop-at.invariant.kept.k1
-
-pub shape_of-p2 : goal.shape_of-p2
-shape_of-p2 c =
-    c.loop-at.invariant.kept.k2
-
-pub shape_of-p3 : goal.shape_of-p3
-shape_of-p3 c =
-    c.loop-at.invariant.kept.k3
-
-pub shape_of-picture : goal.shape_of-picture
-shape_of-picture c =
-    c.loop-at.invariant.kept.k4
-
-pub shape_of-out : goal.shape_of-out
-shape_of-out c =
-    c.loop-at.invariant.room
-
-pub returns : goal.returns
-returns c =
-    rw c.ended-2.ensures (loop-end _ _ _ _ _ _ _ _ c.loop-at.invariant c.loop-at-test.false)
+pub returns-clause-does : goal.returns-clause-does
+returns-clause-does c =
+    let end = loop_end _ _ _ c.loop-earlier.earlier-iterator c.in-None.ensures.steps.0.0 c.loop-earlier.invariant.2 in
+    search (rules, end)

@@ -1,25 +1,21 @@
 -- `decode` is the definition's record: from what its operation's number came to.
-use mathlib.Core.Path.{◌∙◌}
-use Rattle.tape_numbers.proofs.Sizes.{number_fits}
+use mathlib.Core.Path.{sym, ◌∙◌}
 use Rattle.tape_records.specs.Records.{started}
-use Rattle.tape_records.proofs.Judging.{started-so}
+use Rattle.tape_numbers.proofs.Sizes.{number_fits}
+use Rattle.tape_records.proofs.Judging.{err_so, started_so}
 use Rattle.tape_records.proofs.records.decode.Goals as goal
 
-pub first_argument-requires : goal.first_argument-requires
-first_argument-requires c =
-    (number_fits _ _ _ c.read_number.ensures c.in-Value.is).1
-
-pub returns-in-Ended : goal.returns-in-Ended
+pub returns-in_err-operation : goal.returns-in_err-operation
 unfolding started
-returns-in-Ended c =
-    started-so _ c.read_number.ensures c.in-Ended.is
+returns-in_err-operation c = err_so _ c.from_residual.ensures.1 ∙ started_so _ c.read_number.ensures c.in_err-operation.was
 
-pub returns-in-Damaged : goal.returns-in-Damaged
-unfolding started
-returns-in-Damaged c =
-    started-so _ c.read_number.ensures c.in-Damaged.is
+pub invariant_of-arguments : goal.invariant_of-arguments
+invariant_of-arguments c = record { within = (number_fits _ _ c.read_number.ensures c.in_ok-operation.was).1 }
 
-pub returns-in-Value : goal.returns-in-Value
+pub returns-in-Ok : goal.returns-in-Ok
 unfolding started
-returns-in-Value c =
-    c.first_argument.ensures ∙ started-so _ c.read_number.ensures c.in-Value.is
+returns-in-Ok c = sym c.in-Ok.ensures ∙ started_so _ c.read_number.ensures c.in_ok-operation.was
+
+pub returns-in-Err : goal.returns-in-Err
+unfolding started
+returns-in-Err c = sym c.in-Err.ensures ∙ started_so _ c.read_number.ensures c.in_ok-operation.was

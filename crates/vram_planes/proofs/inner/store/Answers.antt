@@ -1,10 +1,14 @@
 -- `store` leaves the byte laid and its pixels remade, and answers for its plane: by the contracts of `lay`, `remake` and `in_plane`.
-use Rattle.machine.specs.Memory.{mem}
-use Rattle.vram_planes.proofs.Counts.{one-stored}
+use Rattle.machine.specs.Memory.{lent}
+use Rattle.machine.proofs.Laws.{laid_within}
+use Rattle.vram_planes.proofs.Counts.{one_stored}
 use Rattle.vram_planes.proofs.inner.store.Goals as goal
 
-pub returns : goal.returns
-returns c =
+pub remake-requires : goal.remake-requires
+remake-requires c =
+    laid_within c.args.at _ _ (lent c.args.memory.now) _ c.args.at c.lay-number.ensures.down c.requires.0 c.requires.1.0
+
+pub returns-clause-counted : goal.returns-clause-counted
+returns-clause-counted c =
     let a = c.args in
-    let m = mem a.p0.now a.p1.now a.p2.now a.p3.now a.picture.now in
-    one-stored a.at a.plane _ m _ c.requires.0 c.requires.1.0 c.lay-number.ensures.0 _ c.lay-number.ensures.1 _ _ c.remake.ensures c.in_plane.ensures
+    (one_stored a.at a.plane _ (lent a.memory.now) _ c.requires.0 c.requires.1.0 c.lay-number.ensures.down _ c.lay-number.ensures.counted _ _ c.remake.ensures.does c.in_plane.ensures).1

@@ -1,6 +1,0 @@
--- `unknown_shown` tells the number of `State`, which is 6.
-use Rattle.answers.proofs.wide.unknown_shown.Goals as goal
-
-pub returns : goal.returns
-returns c =
-    rw c.refusal_number.ensures

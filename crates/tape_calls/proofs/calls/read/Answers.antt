@@ -1,8 +1,0 @@
--- `read` is the machine's step: from what `cpu_read_u8` ensures.
-use mathlib.Core.Path.{◌∙◌}
-use Rattle.tape_calls.proofs.Performing.{cpu-so}
-use Rattle.tape_calls.proofs.calls.read.Goals as goal
-
-pub returns : goal.returns
-returns c =
-    cpu-so _ _ _ _ c.cpu_read_u8-got.ensures (c.of_answer.ensures ∙ c.of_byte.ensures)

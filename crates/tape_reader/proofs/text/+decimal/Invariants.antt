@@ -1,5 +1,0 @@
--- `decimal` calls itself with a tenth of its number.
-use Rattle.tape_reader.proofs.text.+decimal.Given as goal
-
-abbrev pub decreases-decimal : goal.decreases-decimal
-decreases-decimal l = l.number
