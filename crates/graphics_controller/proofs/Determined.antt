@@ -8,12 +8,15 @@ use mathlib.Core.Path.{◌≡◌, ap, ap₂}
 use contract.Lifetimes.{Lfts}
 use denote.Triple.Clauses.{AtExit}
 use borrow.Fn.Kinds.{Dens, ended_of}
+use mathlib.Core.List.{List}
+use base.Fml.{GName}
 use Rattle.machine_types.specs.declared.gc.GraphicsController.{GraphicsController}
 use Rattle.machine.specs.Memory.{Memory, lent}
 use Rattle.machine.specs.Answers.{Said, Outcome, outcome}
 use Rattle.machine.specs.Step.{Device, device}
 use Rattle.machine.proofs.Injective.{answer-of, next_of, older-injective, byte-injective, store-injective, shown-injective}
 use Rattle.machine_types.proofs.OneAnswer.{OneAnswer, OneOutcome}
+use Rattle.machine_types.proofs.Loans.{slices, both, same-slices}
 use Rattle.graphics_controller.proofs.access.cpu_read_u8.Reads as cpu-read-u8
 use Rattle.graphics_controller.proofs.access.cpu_read_u8.Kinds as cpu-read-u8-kinds
 use Rattle.graphics_controller.proofs.access.cpu_peek_u8.Reads as cpu-peek-u8
@@ -44,11 +47,15 @@ module _ (κs : Lfts 2) (a : Dens κs cpu-write-u8-kinds.ps) where
   abbrev Written : Type 0
   Written = AtExit (ended_of 2 cpu-write-u8-kinds.ps cpu-write-u8-kinds.r) κs
 
-  abbrev left : Written → Memory
-  left e = lent e.1.1.0.now
+  -- the memory behind the slices, and whose slices they are
+  abbrev left : Written → Memory × List GName
+  left e = (lent e.1.1.0.now, slices e.1.1.0.now)
 
   pub cpu-write-u8-determined : OneOutcome (cpu-write-u8.Post κs a) left
-  cpu-write-u8-determined r r' e e' p q = (after-of r r' (store-injective r.answer r'.answer (answer-of p.1 q.1)) (gc-of p.1 q.1), ap (λ (d : Device). d.memory) (next_of p.1 q.1))
+  cpu-write-u8-determined r r' e e' p q = (
+    after-of r r' (store-injective r.answer r'.answer (answer-of p.1 q.1)) (gc-of p.1 q.1),
+    both (ap (λ (d : Device). d.memory) (next_of p.1 q.1)) (same-slices p.0 q.0),
+  )
 
 module _ (κs : Lfts 3) (a : Dens κs serialize-kinds.ps) where
   abbrev Shown : Type 0

@@ -4,11 +4,16 @@ use Rattle.std.proofs.Common.{sym, ap, ◌∙◌}
 use contract.Lifetimes.{Lfts}
 use denote.Triple.Clauses.{AtExit}
 use borrow.Fn.Kinds.{Dens, ended_of}
+use mathlib.Core.List.{List}
+use Prim.Native.Nat.{ℕ}
+use base.Fml.{GName}
+use denote.Ref.{Bor}
 use Rattle.machine.specs.Memory.{Memory, lent, remade_in}
 use Rattle.answers.proofs.Told.{answer-is, pixel-is, clock-is, mapped-is}
 use Rattle.host_records.proofs.Told.{sequencer-answer-is}
 use Rattle.host_calls.specs.Hosted.{Held, held}
 use Rattle.machine_types.proofs.OneAnswer.{OneAnswer, OneOutcome}
+use Rattle.machine_types.proofs.Loans.{slices, slices_to_remake, both, same-slices, same-picture}
 use Rattle.host.proofs.planes.iddesmar_vram_read_u8.Reads as vram-read-u8
 use Rattle.host.proofs.planes.iddesmar_vram_read_u8.Kinds as vram-read-u8-kinds
 use Rattle.host.proofs.planes.iddesmar_vram_peek_u8.Reads as vram-peek-u8
@@ -99,18 +104,19 @@ use Rattle.host.proofs.access.iddesmar_gc_serialize_2.Kinds as gc-serialize-kind
 use Rattle.host.proofs.access.iddesmar_gc_show_pixels_2.Reads as gc-show-pixels
 use Rattle.host.proofs.access.iddesmar_gc_show_pixels_2.Kinds as gc-show-pixels-kinds
 
--- what a store leaves behind its five slices, by the place of the loan among what the call is handed; a write of the processor's leaves the record too
-abbrev left-by-vram : (κs : Lfts 2) → AtExit (ended_of 2 vram-plane-set-kinds.ps vram-plane-set-kinds.r) κs → Memory
-left-by-vram κs e = lent e.0.now
+-- what a store leaves behind its five slices, by the place of the loan among what the call is handed; a write of the processor's leaves the record too.
+-- Beside it, whose slices they are.
+abbrev left-by-vram : (κs : Lfts 2) → AtExit (ended_of 2 vram-plane-set-kinds.ps vram-plane-set-kinds.r) κs → Memory × List GName
+left-by-vram κs e = (lent e.0.now, slices e.0.now)
 
-abbrev left-by-deplane : (κs : Lfts 3) → AtExit (ended_of 3 vram-deplane-kinds.ps vram-deplane-kinds.r) κs → Memory
-left-by-deplane κs e = remade_in e.0.now
+abbrev left-by-deplane : (κs : Lfts 3) → AtExit (ended_of 3 vram-deplane-kinds.ps vram-deplane-kinds.r) κs → Memory × (List (Bor (List ℕ)) × GName)
+left-by-deplane κs e = (remade_in e.0.now, slices_to_remake e.0.now)
 
-abbrev left-by-seq : (κs : Lfts 2) → AtExit (ended_of 2 seq-plane-set-kinds.ps seq-plane-set-kinds.r) κs → Memory
-left-by-seq κs e = lent e.1.0.now
+abbrev left-by-seq : (κs : Lfts 2) → AtExit (ended_of 2 seq-plane-set-kinds.ps seq-plane-set-kinds.r) κs → Memory × List GName
+left-by-seq κs e = (lent e.1.0.now, slices e.1.0.now)
 
-abbrev left-by-write : (κs : Lfts 4) → AtExit (ended_of 4 gc-cpu-write-u8-kinds.ps gc-cpu-write-u8-kinds.r) κs → Held
-left-by-write κs e = held e.0.now (lent e.1.1.0.now)
+abbrev left-by-write : (κs : Lfts 4) → AtExit (ended_of 4 gc-cpu-write-u8-kinds.ps gc-cpu-write-u8-kinds.r) κs → Held × List GName
+left-by-write κs e = (held e.0.now (lent e.1.1.0.now), slices e.1.1.0.now)
 
 -- ---- memory alone
 
@@ -136,23 +142,23 @@ module _ (κs : Lfts 3) (a : Dens κs vram-serialize-linear-kinds.ps) where
 
 module _ (κs : Lfts 2) (a : Dens κs vram-write-u8-kinds.ps) where
   pub vram-write-u8-determined : OneOutcome (vram-write-u8.Post κs a) (left-by-vram κs)
-  vram-write-u8-determined r r' e e' p q = (p.1.0 ∙ sym q.1.0, p.1.1 ∙ sym q.1.1)
+  vram-write-u8-determined r r' e e' p q = (p.1.0 ∙ sym q.1.0, both (p.1.1 ∙ sym q.1.1) (same-slices p.0 q.0))
 
 module _ (κs : Lfts 2) (a : Dens κs vram-plane-set-kinds.ps) where
   pub vram-plane-set-determined : OneOutcome (vram-plane-set.Post κs a) (left-by-vram κs)
-  vram-plane-set-determined r r' e e' p q = (p.1.0 ∙ sym q.1.0, p.1.1 ∙ sym q.1.1)
+  vram-plane-set-determined r r' e e' p q = (p.1.0 ∙ sym q.1.0, both (p.1.1 ∙ sym q.1.1) (same-slices p.0 q.0))
 
 module _ (κs : Lfts 2) (a : Dens κs vram-plane-and-kinds.ps) where
   pub vram-plane-and-determined : OneOutcome (vram-plane-and.Post κs a) (left-by-vram κs)
-  vram-plane-and-determined r r' e e' p q = (p.1.0 ∙ sym q.1.0, p.1.1 ∙ sym q.1.1)
+  vram-plane-and-determined r r' e e' p q = (p.1.0 ∙ sym q.1.0, both (p.1.1 ∙ sym q.1.1) (same-slices p.0 q.0))
 
 module _ (κs : Lfts 2) (a : Dens κs vram-plane-or-kinds.ps) where
   pub vram-plane-or-determined : OneOutcome (vram-plane-or.Post κs a) (left-by-vram κs)
-  vram-plane-or-determined r r' e e' p q = (p.1.0 ∙ sym q.1.0, p.1.1 ∙ sym q.1.1)
+  vram-plane-or-determined r r' e e' p q = (p.1.0 ∙ sym q.1.0, both (p.1.1 ∙ sym q.1.1) (same-slices p.0 q.0))
 
 module _ (κs : Lfts 3) (a : Dens κs vram-deplane-kinds.ps) where
   pub vram-deplane-determined : OneOutcome (vram-deplane.Post κs a) (left-by-deplane κs)
-  vram-deplane-determined r r' e e' p q = (answer-is r r' (answer-of p.1 q.1), next_of p.1 q.1)
+  vram-deplane-determined r r' e e' p q = (answer-is r r' (answer-of p.1 q.1), both (next_of p.1 q.1) (same-picture p.0 q.0))
 
 -- ---- the sequencer's record
 
@@ -208,15 +214,15 @@ module _ (κs : Lfts 3) (a : Dens κs seq-serialize-linear-kinds.ps) where
 
 module _ (κs : Lfts 2) (a : Dens κs seq-plane-set-kinds.ps) where
   pub seq-plane-set-determined : OneOutcome (seq-plane-set.Post κs a) (left-by-seq κs)
-  seq-plane-set-determined r r' e e' p q = (p.1.0 ∙ sym q.1.0, p.1.1 ∙ sym q.1.1)
+  seq-plane-set-determined r r' e e' p q = (p.1.0 ∙ sym q.1.0, both (p.1.1 ∙ sym q.1.1) (same-slices p.0 q.0))
 
 module _ (κs : Lfts 2) (a : Dens κs seq-plane-and-kinds.ps) where
   pub seq-plane-and-determined : OneOutcome (seq-plane-and.Post κs a) (left-by-seq κs)
-  seq-plane-and-determined r r' e e' p q = (p.1.0 ∙ sym q.1.0, p.1.1 ∙ sym q.1.1)
+  seq-plane-and-determined r r' e e' p q = (p.1.0 ∙ sym q.1.0, both (p.1.1 ∙ sym q.1.1) (same-slices p.0 q.0))
 
 module _ (κs : Lfts 2) (a : Dens κs seq-plane-or-kinds.ps) where
   pub seq-plane-or-determined : OneOutcome (seq-plane-or.Post κs a) (left-by-seq κs)
-  seq-plane-or-determined r r' e e' p q = (p.1.0 ∙ sym q.1.0, p.1.1 ∙ sym q.1.1)
+  seq-plane-or-determined r r' e e' p q = (p.1.0 ∙ sym q.1.0, both (p.1.1 ∙ sym q.1.1) (same-slices p.0 q.0))
 
 -- ---- the controller's record
 
@@ -284,7 +290,7 @@ module _ (κs : Lfts 5) (a : Dens κs gc-cpu-read-u8-kinds.ps) where
 
 module _ (κs : Lfts 4) (a : Dens κs gc-cpu-write-u8-kinds.ps) where
   pub gc-cpu-write-u8-determined : OneOutcome (gc-cpu-write-u8.Post κs a) (left-by-write κs)
-  gc-cpu-write-u8-determined r r' e e' p q = (p.1.0 ∙ sym q.1.0, p.1.1 ∙ sym q.1.1)
+  gc-cpu-write-u8-determined r r' e e' p q = (p.1.0 ∙ sym q.1.0, both (p.1.1 ∙ sym q.1.1) (same-slices p.0 q.0))
 
 module _ (κs : Lfts 5) (a : Dens κs gc-cpu-peek-u8-kinds.ps) where
   pub gc-cpu-peek-u8-determined : OneAnswer (gc-cpu-peek-u8.Post κs a)

@@ -6,6 +6,7 @@ use lib.ListN.{get_or}
 use contract.Lifetimes.{Lfts}
 use denote.Triple.Clauses.{AtExit}
 use borrow.Fn.Kinds.{Dens, ended_of}
+use base.Fml.{GName}
 use Rattle.std.specs.Prelude.{Option, None, Some}
 use Rattle.machine_types.specs.declared.gc.GraphicsRegister.{GraphicsRegister}
 use Rattle.machine_types.specs.declared.gc.GraphicsRegister.TheVariants.{SetReset, EnableSetReset, ColorCompare, DataRotate, ReadMapSelect, Mode, Miscellaneous, ColorDontCare, BitMask}
@@ -23,6 +24,7 @@ use Rattle.host_records.specs.Records.{counter_of, register_told, value_told, da
 use Rattle.host_records.proofs.Told.{controller-answer-is, sequencer-answer-is, counter-told-apart}
 use Rattle.host_calls.specs.Hosted.{Held}
 use Rattle.machine_types.proofs.OneAnswer.{OneAnswer, OneOutcome}
+use Rattle.machine_types.proofs.Loans.{slices, both, same-slices}
 use Rattle.host_calls.proofs.reset_of.Reads as reset-of
 use Rattle.host_calls.proofs.reset_of.Kinds as reset-of-kinds
 use Rattle.host_calls.proofs.address_of.Reads as address-of
@@ -111,16 +113,17 @@ module _ (κs : Lfts 3) (a : Dens κs read-of-kinds.ps) where
       ap₂ (λ (u : Answer × List ℕ) (k : Option Counter). record { answer = u.0; latches = u.1; counter = k }) (ap₂ (λ (u : Answer) (l : List ℕ). (u, l)) told latches)
       (counter-told-apart r.counter r'.counter counts)
 
--- what a write leaves behind its slices
-abbrev left-by-write : (κs : Lfts 2) → AtExit (ended_of 2 write-of-kinds.ps write-of-kinds.r) κs → Memory
-left-by-write κs e = lent e.1.1.0.now
+-- what a write leaves behind its slices, and whose slices they are
+abbrev left-by-write : (κs : Lfts 2) → AtExit (ended_of 2 write-of-kinds.ps write-of-kinds.r) κs → Memory × List GName
+left-by-write κs e = (lent e.1.1.0.now, slices e.1.1.0.now)
 
 module _ (κs : Lfts 2) (a : Dens κs write-of-kinds.ps) where
   pub write-of-determined : OneOutcome (write-of.Post κs a) (left-by-write κs)
   write-of-determined r r' e e' p q =
       let told = p.1.0.0 ∙ sym q.1.0.0 in
       let counts = p.1.1 ∙ ap (λ (s : Stored). counter_of s.number (write_counter (write_mode (controller_of a.0).registers))) told ∙ sym q.1.1 in
-      (ap₂ (λ (s : Stored) (k : Option Counter). record { answer = s; counter = k }) told (counter-told-apart r.counter r'.counter counts), ap (λ (h : Held). h.memory) (p.1.0.1 ∙ sym q.1.0.1))
+      let memory = ap (λ (h : Held). h.memory) (p.1.0.1 ∙ sym q.1.0.1) in
+      (ap₂ (λ (s : Stored) (k : Option Counter). record { answer = s; counter = k }) told (counter-told-apart r.counter r'.counter counts), both memory (same-slices p.0 q.0))
 
 module _ (κs : Lfts 3) (a : Dens κs peek-of-kinds.ps) where
   pub peek-of-determined : OneAnswer (peek-of.Post κs a)

@@ -1,2 +1,3 @@
+pub mod Loans
 pub mod OneAnswer
 pub mod Determined

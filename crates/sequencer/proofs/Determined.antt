@@ -2,9 +2,12 @@
 use contract.Lifetimes.{Lfts}
 use denote.Triple.Clauses.{AtExit}
 use borrow.Fn.Kinds.{Dens, ended_of}
+use mathlib.Core.List.{List}
+use base.Fml.{GName}
 use Rattle.machine.specs.Memory.{Memory, lent}
 use Rattle.machine.proofs.Injective.{answer-of, next_of, store-injective}
 use Rattle.machine_types.proofs.OneAnswer.{OneOutcome}
+use Rattle.machine_types.proofs.Loans.{slices, both, same-slices}
 use Rattle.sequencer.proofs.direct.plane_set.Reads as plane-set
 use Rattle.sequencer.proofs.direct.plane_set.Kinds as plane-set-kinds
 use Rattle.sequencer.proofs.direct.plane_and.Reads as plane-and
@@ -12,21 +15,21 @@ use Rattle.sequencer.proofs.direct.plane_and.Kinds as plane-and-kinds
 use Rattle.sequencer.proofs.direct.plane_or.Reads as plane-or
 use Rattle.sequencer.proofs.direct.plane_or.Kinds as plane-or-kinds
 
--- what the three stores leave behind their five slices
+-- what the three stores leave behind their five slices, and whose slices they are
 abbrev Stored : Lfts 2 → Type 0
 Stored κs = AtExit (ended_of 2 plane-set-kinds.ps plane-set-kinds.r) κs
 
-abbrev left : (κs : Lfts 2) → Stored κs → Memory
-left κs e = lent e.1.0.now
+abbrev left : (κs : Lfts 2) → Stored κs → Memory × List GName
+left κs e = (lent e.1.0.now, slices e.1.0.now)
 
 module _ (κs : Lfts 2) (a : Dens κs plane-set-kinds.ps) where
   pub plane-set-determined : OneOutcome (plane-set.Post κs a) (left κs)
-  plane-set-determined r r' e e' p q = (store-injective r r' (answer-of p.1 q.1), next_of p.1 q.1)
+  plane-set-determined r r' e e' p q = (store-injective r r' (answer-of p.1 q.1), both (next_of p.1 q.1) (same-slices p.0 q.0))
 
 module _ (κs : Lfts 2) (a : Dens κs plane-and-kinds.ps) where
   pub plane-and-determined : OneOutcome (plane-and.Post κs a) (left κs)
-  plane-and-determined r r' e e' p q = (store-injective r r' (answer-of p.1 q.1), next_of p.1 q.1)
+  plane-and-determined r r' e e' p q = (store-injective r r' (answer-of p.1 q.1), both (next_of p.1 q.1) (same-slices p.0 q.0))
 
 module _ (κs : Lfts 2) (a : Dens κs plane-or-kinds.ps) where
   pub plane-or-determined : OneOutcome (plane-or.Post κs a) (left κs)
-  plane-or-determined r r' e e' p q = (store-injective r r' (answer-of p.1 q.1), next_of p.1 q.1)
+  plane-or-determined r r' e e' p q = (store-injective r r' (answer-of p.1 q.1), both (next_of p.1 q.1) (same-slices p.0 q.0))

@@ -1,12 +1,13 @@
 -- Any two outcomes that a call's contract permits for one input coincide: the result itself and every slice at exit. `Post` is each contract's own reading.
 use Prim.Native.Nat.{ℕ, ◌-◌}
 use mathlib.Core.Path.{◌≡◌, refl, ap, sym, ◌∙◌}
-use mathlib.Core.List.{[], ◌∷◌}
+use mathlib.Core.List.{List, [], ◌∷◌}
 use lib.Dec.{eqb}
 use lib.ListN.{get_or}
 use contract.Lifetimes.{Lfts}
 use denote.Triple.Clauses.{AtExit}
 use borrow.Fn.Kinds.{Dens, ended_of}
+use base.Fml.{GName}
 use Rattle.std.specs.Prelude.{Result, Ok, Err}
 use Rattle.bits.specs.Bit.{pick}
 use Rattle.machine_types.specs.declared.answer.Refusal.{Refusal}
@@ -19,6 +20,7 @@ use Rattle.tape_machine.specs.declared.told.Told.TheVariants.{Byte, Pixels, Chan
 use Rattle.tape_calls.specs.declared.calls.Performed.{Performed}
 use Rattle.tape_machine.specs.Told.{told_said}
 use Rattle.machine_types.proofs.OneAnswer.{OneOutcome}
+use Rattle.machine_types.proofs.Loans.{slices, both, same-slices}
 use Rattle.tape_calls.proofs.calls.perform.Reads as perform
 use Rattle.tape_calls.proofs.calls.perform.Kinds as perform-kinds
 
@@ -75,11 +77,15 @@ module _ (κs : Lfts 2) (a : Dens κs perform-kinds.ps) where
   abbrev Done : Type 0
   Done = AtExit (ended_of 2 perform-kinds.ps perform-kinds.r) κs
 
-  abbrev left : Done → Memory
-  left e = lent e.1.1.0.now
+  abbrev memory : Done → Memory
+  memory e = lent e.1.1.0.now
+
+  -- the memory, and whose slices it is
+  abbrev left : Done → Memory × List GName
+  left e = (memory e, slices e.1.1.0.now)
 
   pub perform-determined : OneOutcome (perform.Post κs a) left
   perform-determined r r' e e' p q = (
-    sym (performed-back r (left e)) ∙ ap performed_back (p.1 ∙ sym q.1) ∙ performed-back r' (left e'),
-    ap (λ (o : Outcome MachineState). o.next.memory) (p.1 ∙ sym q.1),
+    sym (performed-back r (memory e)) ∙ ap performed_back (p.1 ∙ sym q.1) ∙ performed-back r' (memory e'),
+    both (ap (λ (o : Outcome MachineState). o.next.memory) (p.1 ∙ sym q.1)) (same-slices p.0 q.0),
   )

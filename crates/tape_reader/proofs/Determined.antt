@@ -5,11 +5,13 @@ use mathlib.Core.List.{List}
 use contract.Lifetimes.{Lfts}
 use denote.Triple.Clauses.{AtExit}
 use borrow.Fn.Kinds.{Dens, ended_of}
+use base.Fml.{GName}
 use Rattle.machine.specs.Memory.{Memory, lent}
 use Rattle.tape_machine.specs.declared.ran.Ran.{Ran}
 use Rattle.tape_machine.specs.Run.{TapeRun}
 use Rattle.tape_machine.specs.Program.{Printed}
 use Rattle.machine_types.proofs.OneAnswer.{OneOutcome}
+use Rattle.machine_types.proofs.Loans.{slices, both, same-slices}
 use Rattle.tape_reader.proofs.whole.run.Reads as run
 use Rattle.tape_reader.proofs.whole.run.Kinds as run-kinds
 use Rattle.tape_reader.proofs.program.run_from_start.Reads as run-from-start
@@ -19,8 +21,9 @@ module _ (κs : Lfts 4) (a : Dens κs run-kinds.ps) where
   abbrev Played : Type 0
   Played = AtExit (ended_of 4 run-kinds.ps run-kinds.r) κs
 
-  abbrev after : Played → Memory
-  after e = lent e.1.1.1.0.now
+  -- the memory, and whose slices it is
+  abbrev after : Played → Memory × List GName
+  after e = (lent e.1.1.1.0.now, slices e.1.1.1.0.now)
 
   abbrev text : Played → List ℕ
   text e = e.1.1.1.1.0.now
@@ -28,7 +31,7 @@ module _ (κs : Lfts 4) (a : Dens κs run-kinds.ps) where
   pub run-determined : (r r' : Ran) (e e' : Played) → run.Post κs a r e → run.Post κs a r' e' → (r ≡ r') × (after e ≡ after e') × (text e ≡ text e')
   run-determined r r' e e' p q = (
     ap (λ (o : TapeRun). o.ran) (p.1 ∙ sym q.1),
-    ap (λ (o : TapeRun). o.memory) (p.1 ∙ sym q.1),
+    both (ap (λ (o : TapeRun). o.memory) (p.1 ∙ sym q.1)) (same-slices p.0 q.0),
     ap (λ (o : TapeRun). o.out) (p.1 ∙ sym q.1),
   )
 
