@@ -21,6 +21,14 @@ pub record SameSlices (old new : ToStore) : Type 0 where
   pub p3 : old.p3.ghost_name ≡ new.p3.ghost_name
   pub picture : old.picture.ghost_name ≡ new.picture.ghost_name
 
+-- what stores into the planes alone leaves their loans as they are, and the picture is the same value, however it is lent
+pub record SamePlanes {Q : Type 0} (old new : Lent (MutBor (List ℕ)) Q) : Type 0 where
+  pub p0 : old.p0.ghost_name ≡ new.p0.ghost_name
+  pub p1 : old.p1.ghost_name ≡ new.p1.ghost_name
+  pub p2 : old.p2.ghost_name ≡ new.p2.ghost_name
+  pub p3 : old.p3.ghost_name ≡ new.p3.ghost_name
+  pub picture : old.picture ≡ new.picture
+
 -- what stores into the picture alone leaves the planes' loans as they are, and the picture's loan is the same
 pub record SamePicture {P : Type 0} (old new : Lent P (MutBor (List ℕ))) : Type 0 where
   pub p0 : old.p0 ≡ new.p0

@@ -3,6 +3,7 @@
 
 mod answer;
 mod gc;
+pub mod inner;
 mod memory;
 mod place;
 mod seq;
@@ -13,7 +14,7 @@ pub use gc::{
     GraphicsController, GraphicsControllerStats, GraphicsRegister, GraphicsRegisters,
     LogicFunction, MemoryMap, OddEvenModeComplement, ReadMode, ShiftMode, WriteMode,
 };
-pub use memory::{Bytes, Lent, LentToRead, LentToRemake, LentToStore};
+pub use memory::{Lent, LentToRead, LentToRemake, LentToStore};
 pub use place::{PixelPlace, PlaneOffset};
 pub use seq::{OddEvenMode, Sequencer, SequencerRegister};
 pub use shape::Shape;

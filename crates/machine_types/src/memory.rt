@@ -1,45 +1,10 @@
 // Lent memory: four planes of n bytes each, and a picture of 8n bytes, one per pixel. Any lengths can be lent; a call judges them.
-ghost use Rattle.std.specs.Prelude.{◌≡◌, ℕ, ◌<◌, List, length, get_or};
+ghost use Rattle.std.specs.Prelude.{◌≡◌, length};
 ghost use Rattle.machine_types.specs.Lengths.{shape_of};
 ghost use Rattle.machine_types.specs.Slices.{ReadsSame};
 
+use crate::inner::Bytes;
 use crate::shape::Shape;
-
-// A slice, lent to be read or to be stored into.
-pub trait Bytes {
-    ghost bytes: { Self → List ℕ };
-
-    fn count(&self) -> usize
-        ensures { result ≡ length (bytes self.now) };
-
-    fn byte(&self, at: usize) -> u8
-        requires { at < length (bytes self.now) }
-        ensures { result ≡ get_or (bytes self.now) at 0 };
-}
-
-impl Bytes for &[u8] {
-    ghost bytes = { λ s. s.now };
-
-    fn count(&self) -> usize {
-        self.len()
-    }
-
-    fn byte(&self, at: usize) -> u8 {
-        self[at]
-    }
-}
-
-impl Bytes for &mut [u8] {
-    ghost bytes = { λ s. s.now };
-
-    fn count(&self) -> usize {
-        self.len()
-    }
-
-    fn byte(&self, at: usize) -> u8 {
-        self[at]
-    }
-}
 
 // The planes are lent alike, and the picture as they are or otherwise.
 #[derive(Clone, Copy, Drop)]

@@ -12,7 +12,7 @@ pub struct Shape {
 }
 
 impl Shape {
-    // By numbers, since a call that is handed five slices is dear to check.
+    // By numbers, whatever lends the memory.
     pub fn of(p0: usize, p1: usize, p2: usize, p3: usize, picture: usize) -> Self
         ensures { result ≡ shape_of p0 p1 p2 p3 picture }
     {

@@ -10,7 +10,8 @@ ghost use Rattle.machine.specs.Answers.{part, done_said, said_by, older_said};
 ghost use Rattle.machine.specs.Deeds.{remade, eight as eight_of};
 ghost use Rattle.vram_pixels.specs.Word.{of_bytes, turned, came_from};
 
-use machine_types::{Bytes, Lent, Part, PixelPlace, PlaneOffset, Refusal};
+use machine_types::inner::Bytes;
+use machine_types::{Lent, Part, PixelPlace, PlaneOffset, Refusal};
 
 // The place of the first of an offset's eight pixels: the one conversion between the two counts.
 pub fn first_pixel(offset: PlaneOffset) -> PixelPlace

@@ -1,13 +1,14 @@
 // What the crates above may call, and a host may not: functions that ask something of their caller, who has judged planes and offset.
 ghost use Rattle.std.specs.Prelude.{◌≡◌, ◌<◌, ◌≤◌, nat_eq, length, slice_set, get_or};
-ghost use Rattle.machine_types.specs.Slices.{SameSlices};
-ghost use Rattle.machine.specs.Memory.{seen, lent, Shaped};
+ghost use Rattle.machine_types.specs.Slices.{SameSlices, SamePlanes};
+ghost use Rattle.machine.specs.Memory.{seen, lent, behind, Shaped};
 ghost use Rattle.machine.specs.Answers.{changes_of, changed_value};
 ghost use Rattle.machine.specs.Deeds.{byte as byte_of_plane, laid, remade, changed_bits, changed_at};
 ghost use Rattle.vram_planes.specs.Stores.{combines};
 
 use crate::kind::PlaneStore;
-use machine_types::{Changed, LentToRead, LentToStore};
+use machine_types::inner::Bytes;
+use machine_types::{Changed, Lent, LentToRead, LentToStore};
 use vram_changes::inner::{changed_bits, in_plane};
 use vram_pixels::inner::remake;
 
@@ -47,13 +48,20 @@ fn put(bytes: &mut [u8], at: usize, kind: PlaneStore, x: u8) -> u8
     changed_bits(old, new)
 }
 
-// A byte laid into a plane, and how many of its bits that changed; the picture stays as it was, for `remake` to follow once after several planes.
+// A byte laid into a plane, however the picture is lent, and how many of its bits that changed; the picture stays as it was, for `remake` to follow once after several planes.
 #[tactic(auto, using(crate::proofs::Counts::put_down), unfolding(machine::specs::Deeds::laid, machine::specs::Deeds::changed_at))]
-pub fn lay(memory: &mut LentToStore, plane: usize, at: usize, kind: PlaneStore, x: u8) -> u8
-    requires { Shaped (lent memory.old) × ((at < length (lent memory.old).p0) × (plane ≤ 3)) }
-    ensures same_slices { SameSlices memory.old memory.new }
-    ensures down { lent memory.new ≡ laid at (λ q. nat_eq q plane) (λ q. combines kind x (byte_of_plane (lent memory.old) q at)) (lent memory.old) }
-    ensures counted { result ≡ changed_at (lent memory.old) (lent memory.new) at plane }
+pub fn lay<Q: Bytes>(
+    memory: &mut Lent<&mut [u8], Q>,
+    plane: usize,
+    at: usize,
+    kind: PlaneStore,
+    x: u8,
+) -> u8
+    requires { Shaped (behind (λ s. s.now) Q.bytes memory.old) × ((at < length memory.old.p0.now) × (plane ≤ 3)) }
+    ensures same_slices { SamePlanes memory.old memory.new }
+    ensures down { behind (λ s. s.now) Q.bytes memory.new
+        ≡ laid at (λ q. nat_eq q plane) (λ q. combines kind x (byte_of_plane (behind (λ s. s.now) Q.bytes memory.old) q at)) (behind (λ s. s.now) Q.bytes memory.old) }
+    ensures counted { result ≡ changed_at (behind (λ s. s.now) Q.bytes memory.old) (behind (λ s. s.now) Q.bytes memory.new) at plane }
 {
     match plane {
         0 => put(memory.p0, at, kind, x),
