@@ -100,7 +100,7 @@ pub fn refused(refusal: Refusal) -> Answer
     ensures { result ≡ answer_of (refusal_number refusal) 0 }
 {
     Answer {
-        number: refusal as u8,
+        number: fields::refusal_number(refusal),
         value: 0,
     }
 }

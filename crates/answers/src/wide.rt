@@ -46,7 +46,7 @@ impl From<Result<u32, Refusal>> for Clock {
             Ok(clock) => Clock { clock, number: 0 },
             Err(refusal) => Clock {
                 clock: 0,
-                number: refusal as u8,
+                number: fields::refusal_number(refusal),
             },
         }
     }
@@ -64,7 +64,7 @@ impl From<Result<(PlaneOffset, bool), Refusal>> for Mapped {
             },
             Err(refusal) => Mapped {
                 offset: 0,
-                number: refusal as u8,
+                number: fields::refusal_number(refusal),
                 a0: 0,
             },
         }
@@ -78,7 +78,7 @@ impl From<Result<[u8; 8], Refusal>> for Shown {
         match given {
             Ok(pixels) => Shown { pixels, number: 0 },
             Err(refusal) => {
-                let number = refusal as u8;
+                let number = fields::refusal_number(refusal);
                 Shown {
                     pixels: [0u8; 8],
                     number,
@@ -95,7 +95,7 @@ impl From<Part<'_>> for Shown {
     fn from(given: Part<'_>) -> Shown {
         let number = match given.answer {
             Ok(()) => 0,
-            Err(refusal) => refusal as u8,
+            Err(refusal) => fields::refusal_number(refusal),
         };
         let pixels = <[u8; 8]>::try_from(given.pixels).unwrap_or([0u8; 8]);
         Shown { pixels, number }
@@ -113,7 +113,7 @@ impl From<Result<Changed, Refusal>> for Stored {
             },
             Err(refusal) => Stored {
                 changed: [0u8; 4],
-                number: refusal as u8,
+                number: fields::refusal_number(refusal),
             },
         }
     }

@@ -5,6 +5,7 @@ ghost use Rattle.machine.specs.Deeds.{eight as eight_of, nibble, pair, shown_in}
 ghost use Rattle.machine.specs.Calls.{last_shown};
 
 use machine_types::{LentToRead, PlaneOffset, ShiftMode};
+use vram_planes::inner::byte as plane_byte;
 
 // `Chain4`: of each byte the high four bits, then the low four.
 #[tactic(auto, using(crate::proofs::Parts::nibbles_are))]
@@ -55,7 +56,11 @@ fn chain4(memory: &LentToRead, at: usize) -> [u8; 8]
     requires { Shaped (seen memory.now) × (at < length (seen memory.now).p0) }
     ensures { result ≡ shown_in ShiftMode.Chain4 (seen memory.now) at }
 {
-    nibbles(memory.p0[at], memory.p1[at], memory.p2[at], memory.p3[at])
+    let b0 = plane_byte(memory, 0, at);
+    let b1 = plane_byte(memory, 1, at);
+    let b2 = plane_byte(memory, 2, at);
+    let b3 = plane_byte(memory, 3, at);
+    nibbles(b0, b1, b2, b3)
 }
 
 // `CGACompatible`: four pixels from plane 0, then four from plane 1 at the next offset.
@@ -64,10 +69,12 @@ fn cga(memory: &LentToRead, at: usize) -> [u8; 8]
     requires { Shaped (seen memory.now) × (at + 1 < length (seen memory.now).p0) }
     ensures { result ≡ shown_in ShiftMode.CGACompatible (seen memory.now) at }
 {
-    pairs(memory.p0[at], memory.p1[at + 1])
+    let first = plane_byte(memory, 0, at);
+    let second = plane_byte(memory, 1, at + 1);
+    pairs(first, second)
 }
 
-// The standard modes from the picture; the other two from the planes, at the offset as it stands.
+// The standard modes from the picture; the other two by the plane read, at the offset as it stands.
 #[tactic(auto, using(crate::proofs::Bounds::picture_fits, crate::proofs::Bounds::planes_fit), unfolding(machine::specs::Deeds::shown_in))]
 pub fn shown(mode: ShiftMode, memory: &LentToRead, offset: PlaneOffset) -> [u8; 8]
     requires { Shaped (seen memory.now) × (last_shown mode offset.0 < length (seen memory.now).p0) }

@@ -1,4 +1,4 @@
-// What an emulator in C or Rust links: every call of `host` under its own name, with the same clauses. Nothing but exports stands here.
+// What an emulator in C or Rust links: every call of `host` under its own name, with the same equation. Nothing but exports stands here.
 #![tactic(auto)]
 
 mod access;

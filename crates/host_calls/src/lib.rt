@@ -22,7 +22,7 @@ use host_records::left::{
     DataAnswer, ReadAnswer, SequencerAnswer, WriteAnswer, of_graphics_left, of_sequencer_left,
     unknown_controller, unknown_sequencer,
 };
-use host_records::record::{ControllerRecord, SequencerRecord, is_set};
+use host_records::record::{ControllerRecord, SequencerRecord, is_set, known};
 use machine_types::{
     After, GraphicsController, LentToRead, LentToStore, PlaneOffset, Refusal, Sequencer,
 };
@@ -34,7 +34,10 @@ fn meant(
 ) -> Result<(GraphicsController, Sequencer), Refusal>
     ensures { result ≡ pick (known_both gc seq) (Ok (controller_of gc, sequencer_of seq)) (Err State) }
 {
-    Ok((gc.meant()?, seq.meant()?))
+    if !known(gc, seq) {
+        return Err(Refusal::State);
+    }
+    Ok((gc.into(), seq.into()))
 }
 
 // A read: the answer, the latches, and which counter goes up. The record itself stays with the caller.

@@ -79,7 +79,7 @@ fn show(
     let mode = fields::gc::shift_mode(gc.registers);
     let pixels = graphics_controller::show_pixels(gc, seq, memory, offset);
     Performed {
-        told: Told::Pixels(mode, pixels),
+        told: Told::from((mode, pixels)),
         gc,
         seq,
     }

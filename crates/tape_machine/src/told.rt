@@ -1,9 +1,10 @@
 // What a record's call answers, by what it hands back: a line needs a number and a value, and the value of a refusal depends on the call too.
 ghost use Rattle.std.specs.Prelude.{◌≡◌};
-ghost use Rattle.machine.specs.Answers.{byte_said, done_said, store_said};
+ghost use Rattle.machine.specs.Answers.{byte_said, done_said, shown_said, store_said};
 ghost use Rattle.tape_machine.specs.Told.{told_said};
 ghost use Rattle.tape_machine.specs.Run.{fault_said};
 
+use answers::{Answer, Shown, Stored};
 use machine_types::{Changed, Refusal, ShiftMode};
 use tape_records::Fault;
 
@@ -41,6 +42,16 @@ impl From<Result<Changed, Refusal>> for Told {
     }
 }
 
+// A show in a shift mode, and its pixels.
+impl From<(ShiftMode, Result<[u8; 8], Refusal>)> for Told {
+    ghost from_gives = { λ given told. told_said told ≡ shown_said given.0 given.1 };
+
+    fn from(given: (ShiftMode, Result<[u8; 8], Refusal>)) -> Told {
+        let (mode, pixels) = given;
+        Told::Pixels(mode, pixels)
+    }
+}
+
 // What a broken record answers: 7 or 8.
 impl From<Fault> for Told {
     ghost from_gives = { λ fault told. told_said told ≡ fault_said fault };
@@ -59,10 +70,9 @@ impl Told {
         ensures { result ≡ (told_said self).number }
     {
         match self {
-            Told::Byte(Err(refusal))
-            | Told::Pixels(_, Err(refusal))
-            | Told::Changes(Err(refusal)) => refusal as u8,
-            _ => 0,
+            Told::Byte(answer) => Answer::from(answer).number,
+            Told::Pixels(_, answer) => Shown::from(answer).number,
+            Told::Changes(answer) => Stored::from(answer).number,
         }
     }
 }
