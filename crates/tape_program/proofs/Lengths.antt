@@ -1,6 +1,6 @@
--- What a run writes is a part of the array that it was lent.
-use Rattle.std.proofs.Common.{◌≡◌, ℕ, ◌*◌, ◌≤◌, Bool, true, false, leb, List, sym, ap, length, take, refl, arith}
-use Rattle.std.proofs.lemmas.List.{length-take-le}
+-- An array keeps its length, and what a run writes is a part of the array that it was lent.
+use Rattle.std.proofs.Common.{◌≡◌, ℕ, ◌*◌, ◌≤◌, Bool, true, false, leb, List, sym, ap, ◌∙◌, length, take, replicate, refl, arith}
+use Rattle.std.proofs.lemmas.List.{length-replicate, length-take-le}
 use borrow.Author.Tests.{leb-true}
 use Rattle.bits.specs.Bit.{pick}
 use Rattle.machine.specs.Step.{State}
@@ -8,6 +8,10 @@ use Rattle.tape_machine.specs.declared.ran.Ran.{Ran}
 use Rattle.tape_machine.specs.Run.{longest, TapeRun, played_of, run_of}
 use Rattle.tape_machine.specs.Program.{tape_start, Printed, printed, printed_of}
 use Rattle.tape_machine.proofs.Room.{enough-room}
+
+-- what has the length of an array of n bytes has n of them
+pub of_length : (n : ℕ) {m : ℕ} → m ≡ length (replicate {A = ℕ} n 0) → n ≡ m
+of_length n e = sym (e ∙ length-replicate n 0)
 
 -- a property of both branches of a choice
 either : {A : Type 0} (P : A → Type 0) (t : Bool) {x y : A} → (t ≡ true → P x) → P y → P (pick t x y)
