@@ -34,7 +34,9 @@ fn main(rt: HostRuntime) {
         picture: &mut picture[..],
     };
     let sum = run(row, thousands, &mut memory);
-    let _ = println!(rt; "{sum}");
+    // two writes
+    let _ = print!(rt; "{sum}");
+    let _ = println!(rt);
 }
 
 // A row's turns: a sum over the answers, the planes and the picture.

@@ -7,7 +7,7 @@ ghost use Rattle.answers.specs.Answers.{answer_said};
 
 use crate::counter::Counter;
 use crate::record::{ControllerRecord, SequencerRecord};
-use answers::{Answer, AsByte, Stored, unknown};
+use answers::{Answer, AsByte, Stored, refused, unknown};
 use machine_types::{After, GraphicsController, GraphicsRegister, Refusal, Sequencer};
 
 // An answer and the sequencer's record as it is left.
@@ -65,14 +65,15 @@ pub fn of_sequencer_left<T: AsByte>(
 ) -> SequencerAnswer
     ensures { outcome (answer_said result.answer) result.seq ≡ left_to sequencer_record_of (outcome (said_by (λ x. one (T.byte x)) (one 0) left.answer) left.next) seq }
 {
-    let seq = if left.answer.is_ok() {
-        left.next.into()
-    } else {
-        seq
-    };
-    SequencerAnswer {
-        answer: left.answer.into(),
-        seq,
+    match left.answer {
+        Ok(_) => SequencerAnswer {
+            answer: left.answer.into(),
+            seq: left.next.into(),
+        },
+        Err(refusal) => SequencerAnswer {
+            answer: refused(refusal),
+            seq,
+        },
     }
 }
 

@@ -59,9 +59,9 @@ impl fmt::Display for Said {
 
 // Eight hexadecimal digits: the low four bits of each pixel, the leftmost first.
 fn shown<W: fmt::Write>(f: &mut fmt::Formatter<W>, x: Shown) -> fmt::Result {
-    write!(f, "{} ", x.number)?;
+    let mut digits: u32 = 0;
     for pixel in x.pixels {
-        write!(f, "{:X}", pixel % 16)?;
+        digits = (digits << 4) | u32::from(pixel % 16);
     }
-    Ok(())
+    write!(f, "{} {digits:08X}", x.number)
 }

@@ -15,6 +15,8 @@ use vram_planes::PlaneStore;
 use vram_planes::inner::store;
 
 // The direct stores in one: judged, then stored where the mask has the plane, its byte and its eight pixels; else nothing.
+// Inlined, so that an export with its slices in registers lays out no record of them.
+#[inline(always)]
 #[tactic(auto, using(crate::proofs::DirectLaws::stores))]
 fn plane_store(
     seq: Sequencer,

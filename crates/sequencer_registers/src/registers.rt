@@ -27,11 +27,17 @@ pub fn clock(seq: Sequencer) -> Result<u32, Refusal>
 pub fn set_clock_change_pending(mut seq: Sequencer) -> After<Sequencer, Result<(), Refusal>>
     ensures { outcome (done_said result.answer) result.next ≡ sequencer_step seq seq_set_clock_change_pending }
 {
-    let answer = judge_seq(seq);
-    if answer.is_ok() {
-        seq.clock_change_pending = true;
+    if let Err(refusal) = judge_seq(seq) {
+        return After {
+            answer: Err(refusal),
+            next: seq,
+        };
     }
-    After { answer, next: seq }
+    seq.clock_change_pending = true;
+    After {
+        answer: Ok(()),
+        next: seq,
+    }
 }
 
 // The mark as it stood; it is clear afterwards.
@@ -62,12 +68,18 @@ pub fn read_address(seq: Sequencer) -> Result<u8, Refusal>
 pub fn write_address(mut seq: Sequencer, byte: u8) -> After<Sequencer, Result<(), Refusal>>
     ensures { outcome (done_said result.answer) result.next ≡ sequencer_step seq (seq_write_address byte) }
 {
-    let answer = judge_seq(seq);
-    if answer.is_ok() {
-        seq.address_byte = byte;
-        seq.register_selected = fields::seq::selected(byte);
+    if let Err(refusal) = judge_seq(seq) {
+        return After {
+            answer: Err(refusal),
+            next: seq,
+        };
     }
-    After { answer, next: seq }
+    seq.address_byte = byte;
+    seq.register_selected = fields::seq::selected(byte);
+    After {
+        answer: Ok(()),
+        next: seq,
+    }
 }
 
 // The register that stands selected, as it is kept.
@@ -127,12 +139,17 @@ fn with_seq_data(mut seq: Sequencer, byte: u8) -> Sequencer
     seq
 }
 
-pub fn write_data(mut seq: Sequencer, byte: u8) -> After<Sequencer, Result<(), Refusal>>
+pub fn write_data(seq: Sequencer, byte: u8) -> After<Sequencer, Result<(), Refusal>>
     ensures { outcome (done_said result.answer) result.next ≡ sequencer_step seq (seq_write_data byte) }
 {
-    let answer = judge_seq(seq);
-    if answer.is_ok() {
-        seq = with_seq_data(seq, byte);
+    if let Err(refusal) = judge_seq(seq) {
+        return After {
+            answer: Err(refusal),
+            next: seq,
+        };
     }
-    After { answer, next: seq }
+    After {
+        answer: Ok(()),
+        next: with_seq_data(seq, byte),
+    }
 }

@@ -9,14 +9,15 @@ use lib.ListN.{length, get_or, take, length-append, length-map, length-take}
 use lib.Seq.{sets, length-sets}
 use borrow.Author.Tests.{lt-ltb, le-ltb, ne_eqb}
 use Rattle.std.specs.Prelude.{Result, Ok, Err}
-use Rattle.std.specs.Result.{result_unwrap_or}
 use Rattle.bits.specs.Bit.{pick}
 use Rattle.bits.proofs.Decide.{agree1}
 use Rattle.tape_machine.specs.Text.{digits_of, decimal_of, hex_digits, hex_of, hexes_of}
 use Rattle.machine_types.specs.declared.answer.Refusal.{Refusal}
 use Rattle.machine_types.specs.declared.answer.Changed.{Changed}
 use Rattle.machine_types.specs.declared.gc.ShiftMode.{ShiftMode}
-use Rattle.machine.specs.Answers.{refusal_number}
+use Rattle.machine.specs.Answers.{Said, refusal_number, byte_said}
+use Rattle.answers.specs.declared.narrow.Answer.{Answer}
+use Rattle.answers.specs.Answers.{answer_said}
 use Rattle.machine.proofs.Laws.{refusal-some}
 use Rattle.tape_machine.specs.declared.told.Told.{Told}
 use Rattle.tape_machine.specs.declared.told.Told.TheVariants.{Byte, Pixels, Changes}
@@ -60,10 +61,15 @@ enough (suc k) n h =
     let d : n / 10 < 10 ^ suc k = (div-lt_iff_lt-mul (lit< tt)).1 (rw pow-suc at h) in
     ap (λ (l : List ℕ). pick (ltb n 10) [] l ++ ((48 + n % 10) ∷ [])) (enough k (n / 10) d)
 
--- the two equations of decimal digits
+-- the equations of decimal digits: of one, and of more
 pub decimal_small : (n : ℕ) → n < 10 → decimal_of n ≡ (48 + n % 10) ∷ []
 unfolding decimal_of digits_of
 decimal_small n h = rw (lt-ltb n 10 h)
+
+pub decimal_one : (n : ℕ) → n < 10 → decimal_of n ≡ (48 + n) ∷ []
+decimal_one n h =
+    let e : n % 10 ≡ n = omega (arith, h) in
+    decimal_small n h ∙ ap (λ (d : ℕ). (48 + d) ∷ []) e
 
 pub decimal_more : (n : ℕ) → 10 ≤ n → n < 2 ^ 64 → decimal_of n ≡ decimal_of (n / 10) ++ ((48 + n % 10) ∷ [])
 unfolding decimal_of digits_of
@@ -88,10 +94,9 @@ next_room l i d {x} e h room f = record {
 abbrev pub told_text : Told → List ℕ
 told_text t = value_text (told_said t).number (told_said t).value
 
-pub byte_text : {t : Told} {r : Result ℕ Refusal} → t ≡ Byte r → told_text t ≡ decimal_of (result_unwrap_or r 0)
+pub byte_text : {t : Told} {r : Result ℕ Refusal} {a : Answer} → t ≡ Byte r → answer_said a ≡ byte_said r → told_text t ≡ decimal_of a.value
 unfolding value_text
-byte_text {r = Ok x} e = rw e
-byte_text {r = Err f} e = rw e
+byte_text e f = rw e (ap (λ (s : Said). value_text s.number s.value) (sym f))
 
 pub pixels_text : {t : Told} {d : ShiftMode} {r : Result (List ℕ) Refusal} {l : List ℕ} → t ≡ Pixels d r → r ≡ Ok l → told_text t ≡ hexes_of (take 8 l)
 unfolding value_text

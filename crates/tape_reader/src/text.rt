@@ -3,7 +3,7 @@ ghost use Rattle.std.specs.Prelude.{◌≡◌, [], ◌∷◌, take};
 ghost use Rattle.tape_machine.specs.Text.{decimal_of, field_of, hex_of, hexes_of};
 ghost use Rattle.tape_reader.specs.Writes.{HasRoom, Writes};
 
-// A slice, and the place after what was written into it.
+// A slice, and the place after what was written into it. All but `decimal` are inlined, or each byte would load and store the place.
 #[derive(Drop)]
 pub struct Text<'a> {
     pub out: &'a mut [u8],
@@ -11,6 +11,7 @@ pub struct Text<'a> {
 }
 
 impl Text<'_> {
+    #[inline(always)]
     pub fn put(&mut self, byte: u8)
         requires { HasRoom (byte ∷ []) self.old }
         ensures { Writes (byte ∷ []) self.old self.new }
@@ -24,13 +25,15 @@ impl Text<'_> {
         requires { HasRoom (decimal_of number) self.old }
         ensures { Writes (decimal_of number) self.old self.new }
     {
-        if number >= 10 {
-            self.decimal(number / 10);
+        if number < 10 {
+            return self.put(b'0' + number as u8);
         }
+        self.decimal(number / 10);
         self.put(b'0' + (number % 10) as u8);
     }
 
     // A number in decimal, and the blank after it.
+    #[inline(always)]
     pub fn field(&mut self, number: u64)
         requires { HasRoom (field_of number) self.old }
         ensures { Writes (field_of number) self.old self.new }
@@ -40,6 +43,7 @@ impl Text<'_> {
     }
 
     // A show's pixels, a digit each.
+    #[inline(always)]
     pub fn digits(&mut self, pixels: [u8; 8])
         requires { HasRoom (hexes_of (take 8 pixels)) self.old }
         ensures { Writes (hexes_of (take 8 pixels)) self.old self.new }
