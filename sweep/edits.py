@@ -96,7 +96,8 @@ def rattle_rules(part, tables):
         yield m.span(), "b'*'", 'constant'
     for m in re.finditer(r'\b(b|bit)([0-3])\b(?!:)', part.text):
         yield m.span(2), str((int(m.group(2)) + 1) % 4), 'plane'
-    yield from by_types(part, part.bound, r'(?<![\w.:])(\w+)\b(?![\w(:]|\s=\s)', 'parameter')
+    for span, new, kind in by_types(part, part.bound, r'(?<![\w.:])(\w+)\b(?![\w(:]|\s=\s)', 'parameter'):
+        yield span, f'{part.text[slice(*span)]}: {new}' if part.field else new, kind
     for record in tables.fields.values():
         yield from by_types(part, record, r'(?<=\w\.)([a-z]\w*)\b(?!\()', 'register')
     yield from enum_rules(part, tables)

@@ -4,15 +4,19 @@ from collections import defaultdict
 from pathlib import Path
 
 CLAUSE = re.compile(r'(requires|ensures|ghost|invariant|measure)\b')
-FUNCTION = re.compile(r'(pub )?fn (\w+)')
+FUNCTION = re.compile(r'(pub )?(extern "C" )?fn (\w+)')
+# a ghost member that an impl gives: what its functions promise
+MEMBER = re.compile(r'ghost \w+ = ')
+# a type as far as the next parameter: what stands within brackets belongs to it
+TYPE = r'(?:[^,()<>]|<(?:[^<>]|<[^<>]*>)*>|\([^()]*\))+?'
 
 
 class Part:
-    """A piece of a line that is swept: where it begins in the file, its text, and the names that its definition binds."""
+    """A piece of a line that is swept: where it begins in the file, its text, and the names that its definition binds; whether it is a statement, and a record's field by its name alone."""
 
-    def __init__(self, start, line, column, text, bound, statement=False):
+    def __init__(self, start, line, column, text, bound, statement=False, field=False):
         self.start, self.line, self.column, self.text = start, line, column, text
-        self.bound, self.statement = bound, statement
+        self.bound, self.statement, self.field = bound, statement, field
 
 
 def lines_of(text):
@@ -30,32 +34,36 @@ def parameters(head):
     """The parameters of a function, name and type."""
     inside = head[head.index('(') + 1:] if '(' in head else ''
     inside = inside.split(' ensures')[0].split(' requires')[0]
-    return {n: re.sub(r"'\w+ ", '', t).strip() for n, t in re.findall(r"(\w+): ([^,()]+?)(?=,|\)|$)", inside)}
+    return {n: re.sub(r"'\w+ ", '', t).strip() for n, t in re.findall(rf"(\w+): ({TYPE})(?=,|\)|$)", inside)}
 
 
 def rattle_parts(text):
-    """The code of a Rattle file: bodies and constants, no comment, `use`, signature or clause."""
-    head, depth = None, 0
+    """The code of a Rattle file: constants, and the bodies of functions that promise something, by a clause or by a ghost member of their impl; no comment, `use`, signature or clause."""
+    head, depth, clause, member, record = None, 0, False, False, False
     for number, at, line in lines_of(text):
         code = line.split('//')[0]
         bare = code.strip()
         if depth:
             depth += code.count('{') - code.count('}')
-            if depth and bare and not CLAUSE.match(bare):
-                yield Part(at, number, 0, code, parameters(head), statement=True)
+            if depth and bare and (clause or member) and not CLAUSE.match(bare):
+                yield Part(at, number, 0, code, parameters(head), statement=True, field=record and re.fullmatch(r'\w+,', bare) is not None)
+            record = re.search(r'\b[A-Z]\w* \{$', bare) is not None or (record and bare[:1] not in '])}' and bare[-1:] not in '[({')
             head = head if depth else None
-        elif head is None and FUNCTION.match(bare):
-            head = bare
         elif head is None and re.match(r'(pub )?const ', bare):
             yield Part(at + code.index('='), number, code.index('='), code[code.index('='):], {})
-        elif head is not None and not CLAUSE.match(bare):
-            depth, head = (1, head) if bare == '{' else (0, head + ' ' + bare)
+        elif head is None and not FUNCTION.match(bare):
+            member = line != '}' and (member or MEMBER.match(bare) is not None)
+        else:
+            clause = head is not None and (clause or CLAUSE.match(bare) is not None)
+            head = head if clause else f'{head or ""} {bare}'
+            depth = int(bare == '{' if clause else bare.endswith('{'))
+            head = None if bare.endswith((';', '{}')) else head
 
 
 def signatures(text):
     """Each function of a Rattle file with the types that it takes and gives."""
     flat = re.sub(r'\s+', ' ', re.sub(r'//.*', '', text))
-    found = re.findall(r'fn (\w+)(?:<[^>]*>)?\(([^)]*)\)(?: -> ([^{]*?))? (?:requires|ensures|\{)', flat)
+    found = re.findall(r'fn (\w+)(?:<[^>]*>)?\(((?:[^()]|\([^()]*\))*)\)(?: -> ([^{]*?))? (?:requires|ensures|where|\{)', flat)
     return {n: (tuple(parameters('(' + p).values()), r.strip()) for n, p, r in found}
 
 
@@ -64,11 +72,11 @@ def declared(folder):
     fields, variants, constants = defaultdict(dict), defaultdict(dict), defaultdict(list)
     for path in sorted(Path(folder).glob('src/*.rt')):
         text = re.sub(r'//.*', '', path.read_text())
-        for name, body in re.findall(r'struct (\w+) \{(.*?)\n\}', text, re.S):
-            fields[name].update(re.findall(r'(\w+): ([^,\n]+)', body))
-        for name, body in re.findall(r'enum (\w+) \{(.*?)\n\}', text, re.S):
+        for name, body in re.findall(r'struct (\w+)(?:<[^>]*>)? \{(.*?)\n\}', text, re.S):
+            fields[name].update(re.findall(r'(\w+): (.+?),?\s*$', body, re.M))
+        for name, body in re.findall(r'enum (\w+)(?:<[^>]*>)? \{(.*?)\n\}', text, re.S):
             variants[name].update(re.findall(r'^    (\w+)([^,\n]*)', body, re.M))
-        for name, body in re.findall(r'impl (\w+) \{(.*?)\n\}', text, re.S):
+        for name, body in re.findall(r'impl(?:<[^>]*>)? (\w+)(?:<[^>]*>)? \{(.*?)\n\}', text, re.S):
             constants[name] += re.findall(r'const (\w+):', body)
     return fields, variants, constants
 
