@@ -11,8 +11,8 @@ a word of capitals (`NAME-determined`) stands for anything, and what has no lett
 A column of a table that is headed Old or Was has names that went, and is passed over.
 Paths: in every page each word that starts with a folder of the tree, and each name of a file by its ending, with or without backticks; a word of capitals stands for any.
 Numbers: COUNTS has, for each, the sentence of the page and how it is counted. COST.md's two tables agree, README.md's drawing has every crate, below those that it uses, PROMISES.md's table of
-functions with a `requires` has every one that another crate can name, and its table of the harness every crate whose public functions have no contract. No two definitions of specs/ share a name,
-and no module has the name of a crate.
+functions with a `requires` has every one that another crate can name, a public trait's methods too, each in a module `inner`, and its table of the harness every crate whose public functions have
+no contract. No two definitions of specs/ share a name, and no module has the name of a crate.
 """
 import glob
 import os
@@ -315,21 +315,27 @@ def check_cost():
             tell("docs/COST.md", line_of(text, text.index(f"| {name} |", len(table))), f"{name}: {reached} reached, where the table has {is_now}")
 
 
+# a function's name, where a `requires` follows its parameters and what it gives
+ASKS = r"fn (\w+)[^{;]*?\)(?: -> [^\n]*)?\n\s*requires"
+
+
 def asking():
-    """The functions with a `requires` that other crates can name, as crate::module::name."""
+    """The functions with a `requires` that other crates can name, as crate::module::name, and the methods of public traits, as crate::module::Trait::name."""
     found = set()
     for path in glob.glob("crates/*/src/*.rt"):
         crate, module = path.split("/")[1], os.path.basename(path)[:-3]
         library = read(f"crates/{crate}/src/lib.rt") if os.path.exists(f"crates/{crate}/src/lib.rt") else ""
-        for name in re.findall(r"^ *pub fn (\w+)[^{;]*?\)(?: -> [^\n]*)?\n\s*requires", read(path), re.M):
-            handed = re.findall(rf"pub use {module}::(\{{[^{{}}]*\}}|\w+)", library)
-            if module == "lib" or f"pub mod {module};" in library or any(name in re.findall(r"\w+", listed) for listed in handed):
-                found.add(f"{crate}::{module}::{name}")
+        handed = " ".join(re.findall(rf"pub use {module}::(\{{[^{{}}]*\}}|\w+)", library))
+        asks = [(name, name) for name in re.findall(rf"^ *pub {ASKS}", read(path), re.M)]
+        for trait, body in re.findall(r"^pub trait (\w+)[^{]*\{\n(.*?)^\}", read(path), re.M | re.S):
+            asks += [(trait, f"{trait}::{name}") for name in re.findall(rf"^ *{ASKS}", body, re.M)]
+        whole = module == "lib" or f"pub mod {module};" in library
+        found |= {f"{crate}::{module}::{name}" for item, name in asks if whole or item in re.findall(r"\w+", handed)}
     return found
 
 
 def check_requires():
-    """PROMISES.md's table of functions with a `requires` has each of them, and no other."""
+    """PROMISES.md's table of functions with a `requires` has each of them, and no other; they stand in a module `inner`."""
     text = read("docs/PROMISES.md")
     head = "## Functions with a `requires`"
     listed = set()
@@ -339,6 +345,8 @@ def check_requires():
     for name in sorted(listed ^ asking()):
         why = "is listed, and no public function of that name has a `requires`" if name in listed else "has a `requires` and is not listed"
         tell("docs/PROMISES.md", line_of(text, text.index(head)), f"{name} {why}")
+    for name in sorted(name for name in asking() if name.split("::")[1] != "inner"):
+        tell("docs/PROMISES.md", line_of(text, text.index(head)), f"{name} has a `requires` and stands outside a module `inner`")
 
 
 FUNCTION = re.compile(r"^ *pub (?:extern \"C\" )?fn (\w+)(.*?)\{$", re.M | re.S)

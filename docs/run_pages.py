@@ -2,11 +2,13 @@
 
 A piece is a run of indented lines, or what stands between two fences. PIECES lists them in the order of the pages: the page, how the first line starts, and
 what is done with the piece. A piece of commands is run line by line; COMMANDS has those that are not run as they stand, with the reason."""
+import glob
 import os
 import re
 import shutil
 import subprocess
 import sys
+import tempfile
 
 PAGES = ["README.md", "host/README.md"]
 OUT = "target/pages"
@@ -274,7 +276,34 @@ def example_c(piece):
             piece.fails("the piece is not what stands in host/example.c")
 
 
-# ---- Rattle, held to its source
+# ---- Rattle, held to its source, and run
+
+# Map Mask 5 and every bit of the Bit Mask: the write changes eight bits of the planes 0 and 2
+RATTLE_FRAME = """#![tactic(auto)]
+
+use machine_types::{GraphicsController, Lent, LentToStore, Sequencer};
+
+fn main(rt: HostRuntime) {
+    let mut p0 = [0u8; 65536];
+    let mut p1 = [0u8; 65536];
+    let mut p2 = [0u8; 65536];
+    let mut p3 = [0u8; 65536];
+    let mut picture = [0u8; 524288];
+    let mut gc = GraphicsController::new();
+    gc.registers.bitmask = 0xFF;
+    let mut seq = Sequencer::new();
+    seq.map_mask = 5;
+    seq.memory_mode = 4;
+%s
+}
+"""
+RATTLE_ARMS = """    Ok(x) => {
+        let _ = println!(rt; "{} {} {} {}, and {} counted", x.p0, x.p1, x.p2, x.p3, gc.stats.mode_0_writes);
+    }
+    Err(x) => {
+        let _ = println!(rt; "refused with {}", x as u8);
+    }"""
+RATTLE_SAYS = "8 0 8 0, and 1 counted"
 
 
 def source(crate):
@@ -318,6 +347,22 @@ def rattle(piece):
         body = re.search(rf"pub enum {name} \{{([^}}]*)\}}", types)
         if not body or not re.search(rf"\b{variant}\b", body[1]):
             piece.fails(f"no {name}::{variant} in crates/machine_types/src")
+    rattle_run(piece, crate)
+
+
+def rattle_run(piece, crate):
+    """The piece as a program over the sources of the tree, which `rt try` compiles and runs: among the temporary files, since `rt ci` takes no source outside a crate's folder."""
+    with tempfile.TemporaryDirectory() as folder:
+        for sources in glob.glob("crates/*/src"):
+            shutil.copytree(sources, f"{folder}/{sources}")
+        os.makedirs(f"{folder}/crates/piece/src")
+        with open("crates.txt") as listed, open(f"{folder}/crates.txt", "w") as file:
+            file.write(f"{listed.read()}\npiece: machine_types {crate}\n")
+        with open(f"{folder}/crates/piece/src/main.rt", "w") as file:
+            file.write(RATTLE_FRAME % piece.text.replace("\n    ..\n", f"\n{RATTLE_ARMS}\n"))
+        said, status = run(["rt", "try"], at=f"{folder}/crates/piece")
+    if status or said.strip() != RATTLE_SAYS:
+        piece.fails(f"the piece ends with status {status} and says {said.strip()!r}, not {RATTLE_SAYS!r}")
 
 
 # ---- what is printed, and what theorems have
@@ -488,7 +533,7 @@ PIECES = [
     ("README.md", "./run-tape", "shell", "commands"),
     ("README.md", "write_u8  0F", changed_bytes, "held to the bits that differ, and to what `replay` answers"),
     ("README.md", "scripts/build replay", "shell", "commands"),
-    ("README.md", "let mut memory = Lent", rattle, "held to the function's name, parameters and answer, and to the fields of Lent, in crates/graphics_controller/src and crates/machine_types/src"),
+    ("README.md", "let mut memory: LentToStore", rattle, "held to the names in crates/graphics_controller/src and crates/machine_types/src; compiled in a frame and run by `rt try`"),
     ("README.md", "scripts/build host", "shell", "commands"),
     ("README.md", "gc = iddesmar_gc_new", c_piece, "compiled in a frame, linked and run; its numbers and its pixels are those of its comments"),
     ("README.md", "oracle/check", "shell", "commands"),
