@@ -9,6 +9,7 @@ use lib.ListN.{length, get_or, take, length-append, length-map, length-take}
 use lib.Seq.{sets, length-sets}
 use borrow.Author.Tests.{lt-ltb, le-ltb, ne_eqb}
 use Rattle.std.specs.Prelude.{Result, Ok, Err}
+use Rattle.std.specs.Result.{result_unwrap_or}
 use Rattle.bits.specs.Bit.{pick}
 use Rattle.bits.proofs.Decide.{agree1}
 use Rattle.tape_machine.specs.Text.{digits_of, decimal_of, hex_digits, hex_of, hexes_of}
@@ -94,9 +95,15 @@ next_room l i d {x} e h room f = record {
 abbrev pub told_text : Told → List ℕ
 told_text t = value_text (told_said t).number (told_said t).value
 
-pub byte_text : {t : Told} {r : Result ℕ Refusal} {a : Answer} → t ≡ Byte r → answer_said a ≡ byte_said r → told_text t ≡ decimal_of a.value
+pub byte_text : {t : Told} {r : Result ℕ Refusal} → t ≡ Byte r → told_text t ≡ decimal_of (result_unwrap_or r 0)
 unfolding value_text
-byte_text e f = rw e (ap (λ (s : Said). value_text s.number s.value) (sym f))
+byte_text {r = Ok x} e = rw e
+byte_text {r = Err f} e = rw e
+
+-- the same, by the numbers that a byte is told in
+pub answer_text : {t : Told} {r : Result ℕ Refusal} {a : Answer} → t ≡ Byte r → answer_said a ≡ byte_said r → told_text t ≡ decimal_of a.value
+unfolding value_text
+answer_text e f = rw e (ap (λ (s : Said). value_text s.number s.value) (sym f))
 
 pub pixels_text : {t : Told} {d : ShiftMode} {r : Result (List ℕ) Refusal} {l : List ℕ} → t ≡ Pixels d r → r ≡ Ok l → told_text t ≡ hexes_of (take 8 l)
 unfolding value_text

@@ -1,9 +1,9 @@
 -- `value` writes a byte, eight digits or 0.
-use Rattle.tape_reader.proofs.Texts.{byte_text, pixels_text, refused_text, changes_text}
+use Rattle.tape_reader.proofs.Texts.{answer_text, pixels_text, refused_text, changes_text}
 use Rattle.tape_reader.proofs.text.Text.value.Goals as goal
 
 pub decimal-requires : goal.decimal-requires
-decimal-requires c = rw c.from.ensures (rw (byte_text c.in-Byte.is c.from-answer.ensures) at c.requires)
+decimal-requires c = rw c.from.ensures (rw (answer_text c.in-Byte.is c.from-answer.ensures) at c.requires)
 
 pub digits-requires : goal.digits-requires
 digits-requires c = rw (pixels_text c.in-Pixels-default-Ok.is (rw c.in-Pixels-default-Ok.is at c.in-Pixels-default-Ok.field-1-is)) at c.requires
@@ -15,7 +15,7 @@ pub decimal-requires-in-Changes : goal.decimal-requires-in-Changes
 decimal-requires-in-Changes c = rw (changes_text c.in-Changes.is) at c.requires
 
 pub returns-in-Byte : goal.returns-in-Byte
-returns-in-Byte c = rw (byte_text c.in-Byte.is c.from-answer.ensures) (rw c.from.ensures at c.decimal.ensures)
+returns-in-Byte c = rw (answer_text c.in-Byte.is c.from-answer.ensures) (rw c.from.ensures at c.decimal.ensures)
 
 pub returns-in-Pixels-default-Ok : goal.returns-in-Pixels-default-Ok
 returns-in-Pixels-default-Ok c = rw (pixels_text c.in-Pixels-default-Ok.is (rw c.in-Pixels-default-Ok.is at c.in-Pixels-default-Ok.field-1-is)) c.digits.ensures
