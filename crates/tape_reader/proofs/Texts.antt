@@ -103,7 +103,8 @@ byte_text {r = Err f} e = rw e
 -- the same, by the numbers that a byte is told in
 pub answer_text : {t : Told} {r : Result ℕ Refusal} {a : Answer} → t ≡ Byte r → answer_said a ≡ byte_said r → told_text t ≡ decimal_of a.value
 unfolding value_text
-answer_text e f = rw e (ap (λ (s : Said). value_text s.number s.value) (sym f))
+answer_text {r = Ok x} e f = byte_text e ∙ ap (λ (s : Said). value_text s.number s.value) (sym f)
+answer_text {r = Err g} e f = byte_text e ∙ ap (λ (s : Said). value_text s.number s.value) (sym f)
 
 pub pixels_text : {t : Told} {d : ShiftMode} {r : Result (List ℕ) Refusal} {l : List ℕ} → t ≡ Pixels d r → r ≡ Ok l → told_text t ≡ hexes_of (take 8 l)
 unfolding value_text
